@@ -1,0 +1,5 @@
+pub mod EqualBytes
+pub mod Rows
+pub mod RunLaws
+pub mod Streams
+pub mod Tellings

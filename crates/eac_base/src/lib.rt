@@ -1,0 +1,34 @@
+//! What every layer stands on: lists of bytes, and the outside as it is asked.
+//!
+//! The outside (a stream that is read, a stream that is written) is a trait that is handed in. Each trait has ghost
+//! members for what an object holds or took, where it tells it, and a count of faults that never falls. A call answers
+//! [`Failed`] only where that count rose in the call or stands at its last value, so no layer above can invent a fault.
+//!
+//! [`MemorySource`] and [`MemorySink`] hold their bytes and fail by a plan. [`StdSource`] and [`StdSink`] adapt std.
+//! [`read_all`] and [`write_all`] are the only loops over such calls.
+//!
+//! Whatever allocates may answer [`NoMemory`]: no clause ties it to a refused growth. Nothing here knows of scripts,
+//! certificates or desks.
+#![tactic(auto)]
+
+mod acks;
+mod memory_sink;
+mod memory_source;
+mod octets;
+mod outside;
+mod plan;
+mod std_streams;
+#[cfg(test)]
+mod tests;
+mod whole;
+mod words;
+
+pub use acks::{Ack, Acks};
+pub use memory_sink::MemorySink;
+pub use memory_source::MemorySource;
+pub use octets::{Octets, is_same};
+pub use outside::{Failed, NoMemory, ReadRefusal, Sink, Source};
+pub use plan::FailPlan;
+pub use std_streams::{StdSink, StdSource};
+pub use whole::{read_all, write_all};
+pub use words::Words;
