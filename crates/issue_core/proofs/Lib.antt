@@ -1,0 +1,4 @@
+pub mod StoryLaws
+pub mod StruckLaws
+pub mod Ledger
+pub mod RowLaws
