@@ -26,18 +26,15 @@ use Rattle.issue_core.specs.declared.serving.IssueFault.{IssueFault}
 use Rattle.issue_core.specs.declared.serving.IssueFault.TheVariants.{KeeperFault, NoMemory}
 use Rattle.issue_core.specs.Ledger.{Entry, Outcome, Issued as IssuedOutcome, Faulted, MayLeave, faces, kept_for, IsUnused}
 use Rattle.issue_core.specs.Story.{Adds}
-use Rattle.issue_core.specs.Register.{Request, Asked, Fault, KeeperFailed, register, unsigned, delivery_of, is_used, first_rule, Serves, entries_of, entry_of_row, bytes_of, day_of, again_of, outcome_of, row_of}
+use Rattle.issue_core.specs.Register.{Request, Asked, Fault, KeeperFailed, Entries, register, unsigned, delivery_of, is_used, first_rule, Serves, entries_of, entry_of_row, bytes_of, day_of, again_of, outcome_of, row_of}
 use Rattle.issue_core.specs.Steps.{Looks, Enters}
 
-abbrev Ledger : Type 0
-Ledger = List (Entry Request (List ℕ))
-
 -- no entry has this reference
-abbrev lacks : Ledger → List ℕ → Bool
+abbrev lacks : Entries → List ℕ → Bool
 lacks ledger reference = list_all (λ (e : Entry Request (List ℕ)). not (bytes_eq e.query.0 reference)) ledger
 
 -- no two entries have one reference
-abbrev pub IsLedger : Ledger → Type 0
+abbrev pub IsLedger : Entries → Type 0
 IsLedger [] = Unit {0}
 IsLedger (e ∷ es) = (lacks es e.query.0 ≡ true) × IsLedger es
 
@@ -67,7 +64,7 @@ skipping false k p h a = refl
 
 -- ---- no entry has the reference
 
-pub lacks_both : (es : Ledger) (q : Request) → lacks es q.0 ≡ true → (kept_for register es q ≡ None) × (is_used (faces register es) q ≡ false)
+pub lacks_both : (es : Entries) (q : Request) → lacks es q.0 ≡ true → (kept_for register es q ≡ None) × (is_used (faces register es) q ≡ false)
 lacks_both [] q e = (refl, refl)
 lacks_both (x ∷ es) q e = lacking (bytes_eq x.query.0 q.0) (bytes_eq x.query.1 q.1) (lacks es q.0) (is_used (faces register es) q) x.product (kept_for register es q) e (lacks_both es q)
 
@@ -75,7 +72,7 @@ lacks_one : (s l : Bool) → not s && l ≡ true → (s ≡ false) × (l ≡ tru
 lacks_one true l e = absurd (true≢false (sym e))
 lacks_one false l e = (refl, e)
 
-pub unused : (es : Ledger) (reference : List ℕ) → lacks es reference ≡ true → IsUnused register es reference
+pub unused : (es : Entries) (reference : List ℕ) → lacks es reference ≡ true → IsUnused register es reference
 unused [] reference e = tt
 unused (x ∷ es) reference e =
     let h = lacks_one (bytes_eq x.query.0 reference) (lacks es reference) e in
@@ -85,7 +82,7 @@ lacks_here : (s : Bool) (row : Row) (rest : Option Row) (l : Bool) → cond s (S
 lacks_here true row rest l e h = absurd (cc)
 lacks_here false row rest l e h = h e
 
-lacks_step : (o : Bool) (row : Row) (rest : Option Row) (es : Ledger) (reference : List ℕ) → cond (o && bytes_eq row.reference reference) (Some row) rest ≡ None → (rest ≡ None → lacks es reference ≡ true) → lacks (cond o (entry_of_row row ∷ es) es) reference ≡ true
+lacks_step : (o : Bool) (row : Row) (rest : Option Row) (es : Entries) (reference : List ℕ) → cond (o && bytes_eq row.reference reference) (Some row) rest ≡ None → (rest ≡ None → lacks es reference ≡ true) → lacks (cond o (entry_of_row row ∷ es) es) reference ≡ true
 lacks_step true row rest es reference e h = lacks_here (bytes_eq row.reference reference) row rest (lacks es reference) e h
 lacks_step false row rest es reference e h = h e
 
@@ -95,7 +92,7 @@ none_lacks (row ∷ rows) reference e = lacks_step (is_of RegisterTable 0 row) r
 
 -- ---- the number of rows is that of entries
 
-count_step : (o : Bool) (row : Row) (n : ℕ) (es : Ledger) → n ≡ length es → cond o 1 0 + n ≡ length (cond o (entry_of_row row ∷ es) es)
+count_step : (o : Bool) (row : Row) (n : ℕ) (es : Entries) → n ≡ length es → cond o 1 0 + n ≡ length (cond o (entry_of_row row ∷ es) es)
 count_step true row n es e = omega (arith, e)
 count_step false row n es e = omega (arith, e)
 
@@ -103,16 +100,16 @@ pub count_is : (rows : List Row) → rows_of RegisterTable 0 rows ≡ length (en
 count_is [] = refl
 count_is (row ∷ rows) = sum_by-cons (λ x. cond (is_of RegisterTable 0 x) 1 0) row rows ∙ count_step (is_of RegisterTable 0 row) row (rows_of RegisterTable 0 rows) (entries_of rows) (count_is rows)
 
-pub faces_length : (es : Ledger) → length (faces register es) ≡ length es
+pub faces_length : (es : Entries) → length (faces register es) ≡ length es
 faces_length [] = refl
 faces_length (e ∷ es) = omega (arith, faces_length es)
 
 -- ---- the row of the reference is the one entry with it
 
-abbrev pub Seen : Ledger → List ℕ → List ℕ → Part → Type 0
+abbrev pub Seen : Entries → List ℕ → List ℕ → Part → Type 0
 Seen es reference bytes part = (bytes_eq (bytes_of part) bytes ≡ true → kept_for register es (reference, bytes) ≡ Some (day_of part)) × (bytes_eq (bytes_of part) bytes ≡ false → (kept_for register es (reference, bytes) ≡ None) × (is_used (faces register es) (reference, bytes) ≡ true))
 
-seen_here : (s : Bool) (r row : Row) (rest : Option Row) (es : Ledger) (reference bytes : List ℕ) → bytes_eq r.reference reference ≡ s → cond s (Some r) rest ≡ Some row → (lacks es r.reference ≡ true) × IsLedger es → (rest ≡ Some row → IsLedger es → Seen es reference bytes row.part) → Seen (entry_of_row r ∷ es) reference bytes row.part
+seen_here : (s : Bool) (r row : Row) (rest : Option Row) (es : Entries) (reference bytes : List ℕ) → bytes_eq r.reference reference ≡ s → cond s (Some r) rest ≡ Some row → (lacks es r.reference ≡ true) × IsLedger es → (rest ≡ Some row → IsLedger es → Seen es reference bytes row.part) → Seen (entry_of_row r ∷ es) reference bytes row.part
 seen_here true r row rest es reference bytes is e ledger h =
     let same : r ≡ row = cc in
     let here = bytes_eq-true r.reference reference is in
@@ -126,7 +123,7 @@ seen_here false r row rest es reference bytes is e ledger h =
       λ k. passing (bytes_eq r.reference reference) (bytes_eq (bytes_of r.part) bytes) (is_used (faces register es) (reference, bytes)) (day_of r.part) (kept_for register es (reference, bytes)) is (later.1 k),
     )
 
-seen_step : (o : Bool) (r row : Row) (rest : Option Row) (es : Ledger) (reference bytes : List ℕ) → cond (o && bytes_eq r.reference reference) (Some r) rest ≡ Some row → IsLedger (cond o (entry_of_row r ∷ es) es) → (rest ≡ Some row → IsLedger es → Seen es reference bytes row.part) → Seen (cond o (entry_of_row r ∷ es) es) reference bytes row.part
+seen_step : (o : Bool) (r row : Row) (rest : Option Row) (es : Entries) (reference bytes : List ℕ) → cond (o && bytes_eq r.reference reference) (Some r) rest ≡ Some row → IsLedger (cond o (entry_of_row r ∷ es) es) → (rest ≡ Some row → IsLedger es → Seen es reference bytes row.part) → Seen (cond o (entry_of_row r ∷ es) es) reference bytes row.part
 seen_step true r row rest es reference bytes e ledger h = seen_here (bytes_eq r.reference reference) r row rest es reference bytes refl e ledger h
 seen_step false r row rest es reference bytes e ledger h = h e ledger
 
@@ -136,16 +133,16 @@ seen (r ∷ rs) reference bytes row e ledger = seen_step (is_of RegisterTable 0 
 
 -- ---- the rule that is broken
 
-used_rule : (es : List (Request × List ℕ)) (asked : Asked) → is_used es (asked.reference, asked.bytes) ≡ true → first_rule es asked ≡ Some Used
+pub used_rule : (es : List (Request × List ℕ)) (asked : Asked) → is_used es (asked.reference, asked.bytes) ≡ true → first_rule es asked ≡ Some Used
 used_rule es asked e = ap (λ b. cond b (Some Used) (cond (nat_le 100000 (length es)) (Some Full) None)) e
 
-full_rule : (es : List (Request × List ℕ)) (asked : Asked) → is_used es (asked.reference, asked.bytes) ≡ false → 100000 ≤ length es → first_rule es asked ≡ Some Full
+pub full_rule : (es : List (Request × List ℕ)) (asked : Asked) → is_used es (asked.reference, asked.bytes) ≡ false → 100000 ≤ length es → first_rule es asked ≡ Some Full
 full_rule es asked e full = ap (λ b. cond b (Some Used) (cond (nat_le 100000 (length es)) (Some Full) None)) e ∙ ap (λ b. cond b (Some Full) None) (le-leb 100000 (length es) full)
 
-no_rule : (es : List (Request × List ℕ)) (asked : Asked) → is_used es (asked.reference, asked.bytes) ≡ false → length es < 100000 → first_rule es asked ≡ None
+pub no_rule : (es : List (Request × List ℕ)) (asked : Asked) → is_used es (asked.reference, asked.bytes) ≡ false → length es < 100000 → first_rule es asked ≡ None
 no_rule es asked e room = ap (λ b. cond b (Some Used) (cond (nat_le 100000 (length es)) (Some Full) None)) e ∙ ap (λ b. cond b (Some Full) None) (lt-leb 100000 (length es) room)
 
-face_count : (rows : List Row) → rows_of RegisterTable 0 rows ≡ length (faces register (entries_of rows))
+pub face_count : (rows : List Row) → rows_of RegisterTable 0 rows ≡ length (faces register (entries_of rows))
 face_count rows = count_is rows ∙ sym (faces_length (entries_of rows))
 
 -- ---- rows with unique keys are a ledger
@@ -166,80 +163,3 @@ unique_step false row rows is e h = h
 pub unique_ledger : (rows : List Row) → UniqueKeys rows → IsLedger (entries_of rows)
 unique_ledger [] u = tt
 unique_ledger (row ∷ rows) u = let parts = unique_parts row rows u in unique_step (is_of RegisterTable 0 row) row rows refl parts.0 (unique_ledger rows parts.1)
-
--- ---- the call is one delivery
-
-unchanged : (after before : List Row) → after ≡ before → after ≡ before ++ []
-unchanged after before e = e ∙ sym (append-nil before)
-
-serves_row : (b : Bool) (before after : List Row) (asked : Asked) (counts : ℕ × ℕ) (part : Part) → after ≡ before → bytes_eq (bytes_of part) asked.bytes ≡ b → Seen (entries_of before) asked.reference asked.bytes part → Serves before after asked counts (outcome_of (Ok (cond b (Kept (day_of part)) (Refused Used))))
-serves_row true before after asked counts part same is seen = record { left = None; decides = record { left = tt; told = seen.0 is }; rows = unchanged after before same }
-serves_row false before after asked counts part same is seen = record { left = None; decides = record { left = tt; told = ((seen.1 is).0, used_rule (faces register (entries_of before)) asked (seen.1 is).1) }; rows = unchanged after before same }
-
-serves_full : (before after : List Row) (asked : Asked) (counts : ℕ × ℕ) → after ≡ before → row_at RegisterTable 0 asked.reference before ≡ None → 100000 ≤ rows_of RegisterTable 0 before → Serves before after asked counts (outcome_of (Ok (Refused Full)))
-serves_full before after asked counts same none full =
-    let both = lacks_both (entries_of before) (asked.reference, asked.bytes) (none_lacks before asked.reference none) in
-    record { left = None; decides = record { left = tt; told = (both.0, full_rule (faces register (entries_of before)) asked both.1 (subst (λ n. 100000 ≤ n) (face_count before) full)) }; rows = unchanged after before same }
-
-serves_looked : (before after : List Row) (asked : Asked) (counts : ℕ × ℕ) (answer : RegisterAnswer) → UniqueKeys before → after ≡ before → Looks before asked.reference asked.bytes (Ok (Some answer)) → Serves before after asked counts (outcome_of (Ok answer))
-serves_looked before after asked counts answer unique same looked = ⊎_elim
-    (λ (h : (row : Row) × (row_at RegisterTable 0 asked.reference before ≡ Some row) × (answer ≡ again_of row.part asked.bytes)). subst (λ a. Serves before after asked counts (outcome_of (Ok a))) (sym h.2) (serves_row (bytes_eq (bytes_of h.0.part) asked.bytes) before after asked counts h.0.part same refl (seen before asked.reference asked.bytes h.0 h.1 (unique_ledger before unique))))
-    (λ (h : (row_at RegisterTable 0 asked.reference before ≡ None) × (100000 ≤ rows_of RegisterTable 0 before) × (answer ≡ Refused Full)). subst (λ a. Serves before after asked counts (outcome_of (Ok a))) (sym h.2) (serves_full before after asked counts same h.0 h.1))
-    looked
-
--- ---- the adding
-
-abbrev pub row_asked : Asked → Row
-row_asked asked = row_of asked.reference asked.bytes asked.day
-
-may_issue : (rows : List Row) (asked : Asked) (counts : ℕ × ℕ) (outcome : Outcome (List ℕ) Rule Fault) → MayAdd rows (row_asked asked) → MayLeave register outcome asked.day → Adds register unsigned (entries_of rows) (delivery_of asked counts outcome (Some asked.day)) asked.day
-may_issue rows asked counts outcome may told =
-    let none = none_lacks rows asked.reference may.new in
-    let both = lacks_both (entries_of rows) (asked.reference, asked.bytes) none in
-    record {
-      new = both.0;
-      number = unused (entries_of rows) asked.reference none;
-      allowed = no_rule (faces register (entries_of rows)) asked both.1 (subst (λ n. n < 100000) (face_count rows) may.room);
-      body = refl;
-      signed = refl;
-      told = told;
-    }
-
-entered : (before after : List Row) (asked : Asked) (counts : ℕ × ℕ) (result : Result RegisterAnswer IssueFault) → MayAdd before (row_asked asked) → Enters before after (row_asked asked) result → (result ≡ Err KeeperFault → Rose counts.0 counts.1) → Serves before after asked counts (outcome_of result)
-entered before after asked counts (Ok (Issued day)) may h cause = record { left = Some asked.day; decides = record { left = may_issue before asked counts (IssuedOutcome day) may h.0; told = ap Some (sym h.0) }; rows = h.1 }
-entered before after asked counts (Ok (Kept day)) may h cause = absurd h
-entered before after asked counts (Ok (Refused rule)) may h cause = absurd h
-entered before after asked counts (Err KeeperFault) may h cause =
-    ⊎_elim
-    (λ (e : after ≡ before). record { left = None; decides = record { left = tt; told = cause refl }; rows = unchanged after before e })
-    (λ (e : after ≡ before ++ row_asked asked ∷ []). record { left = Some asked.day; decides = record { left = may_issue before asked counts (Faulted KeeperFailed) may tt; told = cause refl }; rows = e })
-    h
-entered before after asked counts (Err NoMemory) may h cause = record { left = None; decides = record { left = tt; told = tt }; rows = unchanged after before h }
-
--- a count that rose later rose
-pub rose_later : (first mid now : ℕ) → first ≤ mid → Rose mid now → Rose first now
-rose_later first mid now a b = omega arith
-
-pub serves_seen : (old new : Option (List Row)) (asked : Asked) (counts : ℕ × ℕ) (found : Option RegisterAnswer) (answer : RegisterAnswer) → found ≡ Some answer → IfSome old UniqueKeys → Told old new (λ before after. (after ≡ before) × Looks before asked.reference asked.bytes (Ok found)) → Told old new (λ before after. Serves before after asked counts (outcome_of (Ok answer)))
-serves_seen old None asked counts found answer is unique looked = tt
-serves_seen None (Some after) asked counts found answer is unique looked = absurd looked
-serves_seen (Some before) (Some after) asked counts found answer is unique looked = serves_looked before after asked counts answer unique looked.0 (subst (λ o. Looks before asked.reference asked.bytes (Ok o)) is looked.1)
-
--- the look failed
-pub serves_fault : (old new : Option (List Row)) (asked : Asked) (counts : ℕ × ℕ) (fault : IssueFault) (look : Result (Option RegisterAnswer) IssueFault) → Told old new (λ before after. (after ≡ before) × Looks before asked.reference asked.bytes look) → (fault ≡ KeeperFault → Rose counts.0 counts.1) → Told old new (λ before after. Serves before after asked counts (outcome_of (Err fault)))
-serves_fault old None asked counts fault look looked cause = tt
-serves_fault None (Some after) asked counts fault look looked cause = absurd looked
-serves_fault (Some before) (Some after) asked counts KeeperFault look looked cause = record { left = None; decides = record { left = tt; told = cause refl }; rows = unchanged after before looked.0 }
-serves_fault (Some before) (Some after) asked counts NoMemory look looked cause = record { left = None; decides = record { left = tt; told = tt }; rows = unchanged after before looked.0 }
-
-pub serves_new : (old mid new : Option (List Row)) (asked : Asked) (counts : ℕ × ℕ) (found : Option RegisterAnswer) (result : Result RegisterAnswer IssueFault) → found ≡ None → Told old mid (λ before after. (after ≡ before) × Looks before asked.reference asked.bytes (Ok found)) → Told mid new (λ before after. MayAdd before (row_asked asked) → Enters before after (row_asked asked) result) → (result ≡ Err KeeperFault → Rose counts.0 counts.1) → Told old new (λ before after. Serves before after asked counts (outcome_of result))
-serves_new old mid new asked counts found result is looked entry cause = told_then _ _ _ old mid new looked entry
-    (λ (before middle after : List Row) (l : (middle ≡ before) × Looks before asked.reference asked.bytes (Ok found)) (e : MayAdd middle (row_asked asked) → Enters middle after (row_asked asked) result).
-    let none : Looks before asked.reference asked.bytes (Ok None) = subst (λ o. Looks before asked.reference asked.bytes (Ok o)) is l.1 in
-    let may : MayAdd before (row_asked asked) = record { new = none.0; room = none.1 } in
-    entered before after asked counts result may (subst (λ rows. MayAdd rows (row_asked asked) → Enters rows after (row_asked asked) result) l.0 e may) cause)
-
--- ---- the two readings of a look
-
-pub looks_then : (old mid new : Option (List Row)) (reference : List ℕ) (P : List Row → Type 0) (Q : List Row → Type 0) (R : List Row → Type 0) → Told old mid (λ before after. (after ≡ before) × P before) → Told mid new (λ before after. (after ≡ before) × Q before) → ((rows : List Row) → P rows → Q rows → R rows) → Told old new (λ before after. (after ≡ before) × R before)
-looks_then old mid new reference P Q R p q f = told_then _ _ _ old mid new p q (λ (before middle after : List Row) (l : (middle ≡ before) × P before) (r : (after ≡ middle) × Q middle). (r.0 ∙ l.0, f before l.1 (subst Q l.0 r.1)))

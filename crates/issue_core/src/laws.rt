@@ -1,6 +1,6 @@
 // The laws of the register's stories. Each is the contract of a function that does nothing.
 ghost use Rattle.std.specs.Prelude.{◌≡◌};
-ghost use Rattle.issue_core.specs.Laws.{GoesOn, StruckIsStory, OneReference, StruckDecides, RepeatIsKept, RowsAreLedger};
+ghost use Rattle.issue_core.specs.Laws.{GoesOn, StruckIsStory, OneReference, StruckDecides, RepeatIsKept, AnswersAreDue, RowsAreLedger};
 
 /// A story goes on by each delivery that the register may make after it.
 pub fn a_story_goes_on()
@@ -25,6 +25,12 @@ pub fn repeats_decide_nothing()
 /// A request that has an entry leaves none, and is answered with that entry where it is answered at all.
 pub fn a_repeat_is_kept()
     ensures { RepeatIsKept }
+{}
+
+/// Whatever is answered is what is due with the entries that stand: so each answer comes exactly where it is due, but
+/// for faults and want of memory.
+pub fn answers_are_due()
+    ensures { AnswersAreDue }
 {}
 
 /// The rows that deliveries add are those of the entries that they leave, in the same order.

@@ -16,9 +16,11 @@
 mod laws;
 mod rule;
 mod serving;
+#[cfg(test)]
+mod tests;
 
 pub use laws::{
-    a_repeat_is_kept, a_story_goes_on, one_entry_for_a_reference, repeats_change_nothing,
+    a_repeat_is_kept, a_story_goes_on, answers_are_due, one_entry_for_a_reference, repeats_change_nothing,
     repeats_decide_nothing, rows_are_the_ledger,
 };
 pub use rule::Rule;
