@@ -14,7 +14,7 @@ use Rattle.std.specs.Str.{bytes_eq}
 use Rattle.eac_base.specs.Telling.{Told}
 use Rattle.eac_base.proofs.Tellings.{told_then}
 use Rattle.keeper.specs.declared.rows.Table.{Table}
-use Rattle.keeper.specs.Rows.{table_of, same_table, is_of, row_at, rows_of, own_row, UniqueKeys}
+use Rattle.keeper.specs.Rows.{table_of, same_table, is_of, row_at, rows_of, own_row, most_rows, UniqueKeys}
 use Rattle.keeper.specs.Keeping.{MayAdd}
 use Rattle.eac_base.proofs.EqualBytes.{bytes_eq-true, bytes_eq-self}
 use Rattle.keeper.proofs.UniqueRows.{unique_parts}
@@ -134,13 +134,13 @@ seen (r ∷ rs) reference bytes row e ledger = seen_step (is_of RegisterTable 0 
 -- ---- the rule that is broken
 
 pub used_rule : (es : List (Request × List ℕ)) (asked : Asked) → is_used es (asked.reference, asked.bytes) ≡ true → first_rule es asked ≡ Some Used
-used_rule es asked e = ap (λ b. cond b (Some Used) (cond (nat_le 100000 (length es)) (Some Full) None)) e
+used_rule es asked e = ap (λ b. cond b (Some Used) (cond (nat_le most_rows (length es)) (Some Full) None)) e
 
-pub full_rule : (es : List (Request × List ℕ)) (asked : Asked) → is_used es (asked.reference, asked.bytes) ≡ false → 100000 ≤ length es → first_rule es asked ≡ Some Full
-full_rule es asked e full = ap (λ b. cond b (Some Used) (cond (nat_le 100000 (length es)) (Some Full) None)) e ∙ ap (λ b. cond b (Some Full) None) (le-leb 100000 (length es) full)
+pub full_rule : (es : List (Request × List ℕ)) (asked : Asked) → is_used es (asked.reference, asked.bytes) ≡ false → most_rows ≤ length es → first_rule es asked ≡ Some Full
+full_rule es asked e full = ap (λ b. cond b (Some Used) (cond (nat_le most_rows (length es)) (Some Full) None)) e ∙ ap (λ b. cond b (Some Full) None) (le-leb most_rows (length es) full)
 
-pub no_rule : (es : List (Request × List ℕ)) (asked : Asked) → is_used es (asked.reference, asked.bytes) ≡ false → length es < 100000 → first_rule es asked ≡ None
-no_rule es asked e room = ap (λ b. cond b (Some Used) (cond (nat_le 100000 (length es)) (Some Full) None)) e ∙ ap (λ b. cond b (Some Full) None) (lt-leb 100000 (length es) room)
+pub no_rule : (es : List (Request × List ℕ)) (asked : Asked) → is_used es (asked.reference, asked.bytes) ≡ false → length es < most_rows → first_rule es asked ≡ None
+no_rule es asked e room = ap (λ b. cond b (Some Used) (cond (nat_le most_rows (length es)) (Some Full) None)) e ∙ ap (λ b. cond b (Some Full) None) (lt-leb most_rows (length es) room)
 
 pub face_count : (rows : List Row) → rows_of RegisterTable 0 rows ≡ length (faces register (entries_of rows))
 face_count rows = count_is rows ∙ sym (faces_length (entries_of rows))

@@ -14,7 +14,7 @@ use Rattle.std.specs.Str.{bytes_eq}
 use Rattle.eac_base.specs.Telling.{Told}
 use Rattle.eac_base.proofs.Tellings.{told_then}
 use Rattle.keeper.specs.declared.rows.Table.{Table}
-use Rattle.keeper.specs.Rows.{table_of, same_table, is_of, row_at, rows_of, own_row, UniqueKeys}
+use Rattle.keeper.specs.Rows.{table_of, same_table, is_of, row_at, rows_of, own_row, most_rows, UniqueKeys}
 use Rattle.keeper.specs.Keeping.{MayAdd}
 use Rattle.eac_base.proofs.EqualBytes.{bytes_eq-true, bytes_eq-self}
 use Rattle.keeper.proofs.UniqueRows.{unique_parts}
@@ -39,15 +39,15 @@ serves_row : (b : Bool) (before after : List Row) (asked : Asked) (counts : ℕ 
 serves_row true before after asked counts part same is seen = record { left = None; decides = record { left = tt; told = seen.0 is }; rows = unchanged after before same }
 serves_row false before after asked counts part same is seen = record { left = None; decides = record { left = tt; told = ((seen.1 is).0, used_rule (faces register (entries_of before)) asked (seen.1 is).1) }; rows = unchanged after before same }
 
-serves_full : (before after : List Row) (asked : Asked) (counts : ℕ × ℕ) → after ≡ before → row_at RegisterTable 0 asked.reference before ≡ None → 100000 ≤ rows_of RegisterTable 0 before → Serves before after asked counts (outcome_of (Ok (Refused Full)))
+serves_full : (before after : List Row) (asked : Asked) (counts : ℕ × ℕ) → after ≡ before → row_at RegisterTable 0 asked.reference before ≡ None → most_rows ≤ rows_of RegisterTable 0 before → Serves before after asked counts (outcome_of (Ok (Refused Full)))
 serves_full before after asked counts same none full =
     let both = lacks_both (entries_of before) (asked.reference, asked.bytes) (none_lacks before asked.reference none) in
-    record { left = None; decides = record { left = tt; told = (both.0, full_rule (faces register (entries_of before)) asked both.1 (subst (λ n. 100000 ≤ n) (face_count before) full)) }; rows = unchanged after before same }
+    record { left = None; decides = record { left = tt; told = (both.0, full_rule (faces register (entries_of before)) asked both.1 (subst (λ n. most_rows ≤ n) (face_count before) full)) }; rows = unchanged after before same }
 
 serves_looked : (before after : List Row) (asked : Asked) (counts : ℕ × ℕ) (answer : RegisterAnswer) → UniqueKeys before → after ≡ before → Looks before asked.reference asked.bytes (Ok (Some answer)) → Serves before after asked counts (outcome_of (Ok answer))
 serves_looked before after asked counts answer unique same looked = ⊎_elim
     (λ (h : (row : Row) × (row_at RegisterTable 0 asked.reference before ≡ Some row) × (answer ≡ again_of row.part asked.bytes)). subst (λ a. Serves before after asked counts (outcome_of (Ok a))) (sym h.2) (serves_row (bytes_eq (bytes_of h.0.part) asked.bytes) before after asked counts h.0.part same refl (seen before asked.reference asked.bytes h.0 h.1 (unique_ledger before unique))))
-    (λ (h : (row_at RegisterTable 0 asked.reference before ≡ None) × (100000 ≤ rows_of RegisterTable 0 before) × (answer ≡ Refused Full)). subst (λ a. Serves before after asked counts (outcome_of (Ok a))) (sym h.2) (serves_full before after asked counts same h.0 h.1))
+    (λ (h : (row_at RegisterTable 0 asked.reference before ≡ None) × (most_rows ≤ rows_of RegisterTable 0 before) × (answer ≡ Refused Full)). subst (λ a. Serves before after asked counts (outcome_of (Ok a))) (sym h.2) (serves_full before after asked counts same h.0 h.1))
     looked
 
 -- ---- the adding
@@ -62,7 +62,7 @@ may_issue rows asked counts outcome may told =
     record {
       new = both.0;
       number = unused (entries_of rows) asked.reference none;
-      allowed = no_rule (faces register (entries_of rows)) asked both.1 (subst (λ n. n < 100000) (face_count rows) may.room);
+      allowed = no_rule (faces register (entries_of rows)) asked both.1 (subst (λ n. n < most_rows) (face_count rows) may.room);
       body = refl;
       signed = refl;
       told = told;

@@ -8,7 +8,7 @@ use Rattle.keeper.specs.declared.rows.Row.{Row}
 use Rattle.keeper.specs.declared.rows.Part.{Part}
 use Rattle.keeper.specs.declared.rows.Part.TheVariants.{Register}
 use Rattle.std.specs.Str.{bytes_eq}
-use Rattle.keeper.specs.Rows.{is_of}
+use Rattle.keeper.specs.Rows.{is_of, most_rows}
 use Rattle.keeper.specs.declared.rows.Table.TheVariants.{Register as RegisterTable}
 use Rattle.issue_core.specs.declared.rule.Rule.{Rule}
 use Rattle.issue_core.specs.declared.rule.Rule.TheVariants.{Used, Full}
@@ -38,7 +38,7 @@ abbrev pub is_used : List (Request × List ℕ) → Request → Bool
 is_used es q = list_any (λ (e : Request × List ℕ). bytes_eq e.0.0 q.0 && not (bytes_eq e.0.1 q.1)) es
 
 abbrev pub first_rule : List (Request × List ℕ) → Asked → Option Rule
-first_rule es asked = if is_used es (asked.reference, asked.bytes) then Some Used else if nat_le 100000 (length es) then Some Full else None
+first_rule es asked = if is_used es (asked.reference, asked.bytes) then Some Used else if nat_le most_rows (length es) then Some Full else None
 
 -- the only fault is the keeper's
 pub data Fault : Type 0 where

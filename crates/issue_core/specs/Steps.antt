@@ -4,7 +4,7 @@ use Rattle.std.specs.declared.option.Option.{Option}
 use Rattle.std.specs.declared.result.Result.{Result}
 use Rattle.keeper.specs.declared.rows.Row.{Row}
 use Rattle.keeper.specs.declared.rows.Table.TheVariants.{Register as RegisterTable}
-use Rattle.keeper.specs.Rows.{row_at, rows_of}
+use Rattle.keeper.specs.Rows.{row_at, rows_of, most_rows}
 use Rattle.keeper.specs.declared.traits.KeepRefusal.{KeepRefusal}
 use Rattle.keeper.specs.declared.traits.KeepRefusal.TheVariants.{Failed, Full as KeeperFull, Twice, Absent, NoMemory as KeeperNoMemory}
 use Rattle.issue_core.specs.declared.rule.Rule.TheVariants.{Full}
@@ -17,8 +17,8 @@ use Rattle.issue_core.specs.Register.{again_of, day_of}
 -- what a look answers: the row of the reference, or a full table, or nothing
 abbrev pub Looks : List Row → List ℕ → List ℕ → Result (Option RegisterAnswer) IssueFault → Type 0
 Looks rows reference bytes (Ok (Some answer)) =
-    ((row : Row) × (row_at RegisterTable 0 reference rows ≡ Some row) × (answer ≡ again_of row.part bytes)) ⊎ ((row_at RegisterTable 0 reference rows ≡ None) × (100000 ≤ rows_of RegisterTable 0 rows) × (answer ≡ Refused Full))
-Looks rows reference bytes (Ok None) = (row_at RegisterTable 0 reference rows ≡ None) × (rows_of RegisterTable 0 rows < 100000)
+    ((row : Row) × (row_at RegisterTable 0 reference rows ≡ Some row) × (answer ≡ again_of row.part bytes)) ⊎ ((row_at RegisterTable 0 reference rows ≡ None) × (most_rows ≤ rows_of RegisterTable 0 rows) × (answer ≡ Refused Full))
+Looks rows reference bytes (Ok None) = (row_at RegisterTable 0 reference rows ≡ None) × (rows_of RegisterTable 0 rows < most_rows)
 Looks rows reference bytes (Err fault) = Unit {0}
 
 -- what an adding does to the rows, where the row may be added

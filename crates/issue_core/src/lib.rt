@@ -20,8 +20,8 @@ mod serving;
 mod tests;
 
 pub use laws::{
-    a_repeat_is_kept, a_story_goes_on, answers_are_due, one_entry_for_a_reference, repeats_change_nothing,
-    repeats_decide_nothing, rows_are_the_ledger,
+    a_repeat_is_kept, a_story_goes_on, answers_are_due, one_entry_for_a_reference,
+    repeats_change_nothing, repeats_decide_nothing, rows_are_the_ledger,
 };
 pub use rule::Rule;
 pub use serving::{IssueFault, RegisterAnswer, register};

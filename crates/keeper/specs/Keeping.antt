@@ -7,20 +7,20 @@ use Rattle.keeper.specs.declared.rows.Row.{Row}
 use Rattle.keeper.specs.declared.rows.Table.{Table}
 use Rattle.keeper.specs.declared.traits.KeepRefusal.{KeepRefusal}
 use Rattle.keeper.specs.declared.traits.KeepRefusal.TheVariants.{Failed, Full, Twice, Absent, NoMemory}
-use Rattle.keeper.specs.Rows.{table_of, has_key, row_at, rows_of, own_row, rows_beside, IsStorable}
+use Rattle.keeper.specs.Rows.{table_of, has_key, row_at, rows_of, own_row, rows_beside, most_rows, IsStorable}
 
 -- ---- adding
 
--- the row may be added: its key is new, and its desk has fewer than 100,000 rows in its table
+-- the row may be added: its key is new, and its desk has room in its table
 pub record MayAdd (rows : List Row) (row : Row) : Type 0 where
   pub new : own_row row rows ≡ None
-  pub room : rows_beside row rows < 100000
+  pub room : rows_beside row rows < most_rows
 
 -- an adding, by the rows before and after it
 abbrev pub Adds : {U : Type 0} → List Row → List Row → Row → Result U KeepRefusal → Type 0
 Adds old new row (Ok u) = MayAdd old row × (new ≡ old ++ row ∷ [])
 Adds old new row (Err Failed) = (new ≡ old) ⊎ (MayAdd old row × (new ≡ old ++ row ∷ []))
-Adds old new row (Err Full) = (new ≡ old) × (own_row row old ≡ None) × (100000 ≤ rows_beside row old)
+Adds old new row (Err Full) = (new ≡ old) × (own_row row old ≡ None) × (most_rows ≤ rows_beside row old)
 Adds old new row (Err (Twice kept)) = (new ≡ old) × (own_row row old ≡ Some kept)
 Adds old new row (Err Absent) = ⊥
 Adds old new row (Err NoMemory) = new ≡ old

@@ -42,6 +42,10 @@ rows_beside row rows = rows_of (table_of row.part) row.desk rows
 
 -- ---- what rows may be
 
+-- a desk has at most so many rows in one table
+abbrev pub most_rows : ℕ
+most_rows = 100000
+
 -- no two rows have one key
 abbrev pub are_unique : List Row → Bool
 are_unique [] = true
