@@ -1,0 +1,96 @@
+-- A call of the register is one delivery.
+use Rattle.std.proofs.Common.{◌≡◌, ℕ, ◌+◌, ◌<◌, ◌≤◌, Bool, true, false, cond, List, [], ◌∷◌, ◌++◌, length, Some, None, Ok, Err, refl, sym, ap, ◌∙◌, subst, arith, true≢false, nat_eq, append-nil, ⊎_elim}
+use Rattle.std.proofs.lemmas.Bool.{le-leb, lt-leb, eqb-true}
+use Rattle.std.proofs.lemmas.List.Sums.{sum_by-cons}
+use Rattle.std.specs.Prelude.{◌&&◌, ◌||◌, not, IfSome, nat_le}
+use Rattle.std.specs.List.{list_all}
+use Rattle.std.specs.declared.option.Option.{Option}
+use Rattle.std.specs.declared.result.Result.{Result}
+use Rattle.eac_base.specs.Causes.{Rose}
+use Rattle.keeper.specs.declared.rows.Row.{Row}
+use Rattle.keeper.specs.declared.rows.Part.{Part}
+use Rattle.keeper.specs.declared.rows.Table.TheVariants.{Register as RegisterTable}
+use Rattle.std.specs.Str.{bytes_eq}
+use Rattle.eac_base.specs.Telling.{Told}
+use Rattle.eac_base.proofs.Tellings.{told_then}
+use Rattle.keeper.specs.declared.rows.Table.{Table}
+use Rattle.keeper.specs.Rows.{table_of, same_table, is_of, row_at, rows_of, own_row, most_rows, UniqueKeys}
+use Rattle.keeper.specs.Keeping.{MayAdd}
+use Rattle.eac_base.proofs.EqualBytes.{bytes_eq-true, bytes_eq-self}
+use Rattle.keeper.proofs.UniqueRows.{unique_parts}
+use Rattle.issue_core.specs.declared.rule.Rule.{Rule}
+use Rattle.issue_core.specs.declared.rule.Rule.TheVariants.{Used, Full}
+use Rattle.issue_core.specs.declared.serving.RegisterAnswer.{RegisterAnswer}
+use Rattle.issue_core.specs.declared.serving.RegisterAnswer.TheVariants.{Issued, Kept, Refused}
+use Rattle.issue_core.specs.declared.serving.IssueFault.{IssueFault}
+use Rattle.issue_core.specs.declared.serving.IssueFault.TheVariants.{KeeperFault, NoMemory}
+use Rattle.issue_core.specs.Ledger.{Entry, Outcome, Issued as IssuedOutcome, Faulted, MayLeave, faces, kept_for, IsUnused}
+use Rattle.issue_core.specs.Story.{Adds}
+use Rattle.issue_core.specs.Register.{Request, Asked, Fault, KeeperFailed, Entries, register, unsigned, delivery_of, is_used, first_rule, Serves, entries_of, entry_of_row, bytes_of, day_of, again_of, outcome_of, row_of}
+use Rattle.issue_core.specs.Steps.{Looks, Enters}
+use Rattle.issue_core.proofs.Ledger.{Seen, lacks_both, unused, none_lacks, face_count, seen, used_rule, full_rule, no_rule, unique_ledger}
+
+-- ---- what a look answers
+
+unchanged : (after before : List Row) → after ≡ before → after ≡ before ++ []
+unchanged after before e = e ∙ sym (append-nil before)
+
+serves_row : (b : Bool) (before after : List Row) (asked : Asked) (counts : ℕ × ℕ) (part : Part) → after ≡ before → bytes_eq (bytes_of part) asked.bytes ≡ b → Seen (entries_of before) asked.reference asked.bytes part → Serves before after asked counts (outcome_of (Ok (cond b (Kept (day_of part)) (Refused Used))))
+serves_row true before after asked counts part same is seen = record { left = None; decides = record { left = tt; told = seen.0 is }; rows = unchanged after before same }
+serves_row false before after asked counts part same is seen = record { left = None; decides = record { left = tt; told = ((seen.1 is).0, used_rule (faces register (entries_of before)) asked (seen.1 is).1) }; rows = unchanged after before same }
+
+serves_full : (before after : List Row) (asked : Asked) (counts : ℕ × ℕ) → after ≡ before → row_at RegisterTable 0 asked.reference before ≡ None → most_rows ≤ rows_of RegisterTable 0 before → Serves before after asked counts (outcome_of (Ok (Refused Full)))
+serves_full before after asked counts same none full =
+    let both = lacks_both (entries_of before) (asked.reference, asked.bytes) (none_lacks before asked.reference none) in
+    record { left = None; decides = record { left = tt; told = (both.0, full_rule (faces register (entries_of before)) asked both.1 (subst (λ n. most_rows ≤ n) (face_count before) full)) }; rows = unchanged after before same }
+
+serves_looked : (before after : List Row) (asked : Asked) (counts : ℕ × ℕ) (answer : RegisterAnswer) → UniqueKeys before → after ≡ before → Looks before asked.reference asked.bytes (Ok (Some answer)) → Serves before after asked counts (outcome_of (Ok answer))
+serves_looked before after asked counts answer unique same looked = ⊎_elim
+    (λ (h : (row : Row) × (row_at RegisterTable 0 asked.reference before ≡ Some row) × (answer ≡ again_of row.part asked.bytes)). subst (λ a. Serves before after asked counts (outcome_of (Ok a))) (sym h.2) (serves_row (bytes_eq (bytes_of h.0.part) asked.bytes) before after asked counts h.0.part same refl (seen before asked.reference asked.bytes h.0 h.1 (unique_ledger before unique))))
+    (λ (h : (row_at RegisterTable 0 asked.reference before ≡ None) × (most_rows ≤ rows_of RegisterTable 0 before) × (answer ≡ Refused Full)). subst (λ a. Serves before after asked counts (outcome_of (Ok a))) (sym h.2) (serves_full before after asked counts same h.0 h.1))
+    looked
+
+-- ---- the adding
+
+abbrev pub row_asked : Asked → Row
+row_asked asked = row_of asked.reference asked.bytes asked.day
+
+may_issue : (rows : List Row) (asked : Asked) (counts : ℕ × ℕ) (outcome : Outcome (List ℕ) Rule Fault) → MayAdd rows (row_asked asked) → MayLeave register outcome asked.day → Adds register unsigned (entries_of rows) (delivery_of asked counts outcome (Some asked.day)) asked.day
+may_issue rows asked counts outcome may told =
+    let none = none_lacks rows asked.reference may.new in
+    let both = lacks_both (entries_of rows) (asked.reference, asked.bytes) none in
+    record {
+      new = both.0;
+      number = unused (entries_of rows) asked.reference none;
+      allowed = no_rule (faces register (entries_of rows)) asked both.1 (subst (λ n. n < most_rows) (face_count rows) may.room);
+      body = refl;
+      signed = refl;
+      told = told;
+    }
+
+entered : (before after : List Row) (asked : Asked) (counts : ℕ × ℕ) (result : Result RegisterAnswer IssueFault) → MayAdd before (row_asked asked) → Enters before after (row_asked asked) result → (result ≡ Err KeeperFault → Rose counts.0 counts.1) → Serves before after asked counts (outcome_of result)
+entered before after asked counts (Ok (Issued day)) may h cause = record { left = Some asked.day; decides = record { left = may_issue before asked counts (IssuedOutcome day) may h.0; told = ap Some (sym h.0) }; rows = h.1 }
+entered before after asked counts (Ok (Kept day)) may h cause = absurd h
+entered before after asked counts (Ok (Refused rule)) may h cause = absurd h
+entered before after asked counts (Err KeeperFault) may h cause =
+    ⊎_elim
+    (λ (e : after ≡ before). record { left = None; decides = record { left = tt; told = cause refl }; rows = unchanged after before e })
+    (λ (e : after ≡ before ++ row_asked asked ∷ []). record { left = Some asked.day; decides = record { left = may_issue before asked counts (Faulted KeeperFailed) may tt; told = cause refl }; rows = e })
+    h
+entered before after asked counts (Err NoMemory) may h cause = record { left = None; decides = record { left = tt; told = tt }; rows = unchanged after before h }
+
+-- a count that rose later rose
+pub rose_later : (first mid now : ℕ) → first ≤ mid → Rose mid now → Rose first now
+rose_later first mid now a b = omega arith
+
+pub serves_seen : (old new : Option (List Row)) (asked : Asked) (counts : ℕ × ℕ) (found : Option RegisterAnswer) (answer : RegisterAnswer) → found ≡ Some answer → IfSome old UniqueKeys → Told old new (λ before after. (after ≡ before) × Looks before asked.reference asked.bytes (Ok found)) → Told old new (λ before after. Serves before after asked counts (outcome_of (Ok answer)))
+serves_seen old None asked counts found answer is unique looked = tt
+serves_seen None (Some after) asked counts found answer is unique looked = absurd looked
+serves_seen (Some before) (Some after) asked counts found answer is unique looked = serves_looked before after asked counts answer unique looked.0 (subst (λ o. Looks before asked.reference asked.bytes (Ok o)) is looked.1)
+
+pub serves_new : (old mid new : Option (List Row)) (asked : Asked) (counts : ℕ × ℕ) (found : Option RegisterAnswer) (result : Result RegisterAnswer IssueFault) → found ≡ None → Told old mid (λ before after. (after ≡ before) × Looks before asked.reference asked.bytes (Ok found)) → Told mid new (λ before after. MayAdd before (row_asked asked) → Enters before after (row_asked asked) result) → (result ≡ Err KeeperFault → Rose counts.0 counts.1) → Told old new (λ before after. Serves before after asked counts (outcome_of result))
+serves_new old mid new asked counts found result is looked entry cause = told_then _ _ _ old mid new looked entry
+    (λ (before middle after : List Row) (l : (middle ≡ before) × Looks before asked.reference asked.bytes (Ok found)) (e : MayAdd middle (row_asked asked) → Enters middle after (row_asked asked) result).
+    let none : Looks before asked.reference asked.bytes (Ok None) = subst (λ o. Looks before asked.reference asked.bytes (Ok o)) is l.1 in
+    let may : MayAdd before (row_asked asked) = record { new = none.0; room = none.1 } in
+    entered before after asked counts result may (subst (λ rows. MayAdd rows (row_asked asked) → Enters rows after (row_asked asked) result) l.0 e may) cause)

@@ -1,0 +1,140 @@
+-- The plain register as a desk: a reference with bytes is the request, and the day is what is given (this project's own).
+use Rattle.std.specs.Prelude.{◌≡◌, ℕ, ◌≤◌, ◌&&◌, Bool, true, not, nat_le, List, [], ◌∷◌, ◌++◌, length, map, flat_map, Some, None, Ok, Err, if◌then◌else◌}
+use Rattle.std.specs.declared.option.Option.{Option}
+use Rattle.std.specs.declared.result.Result.{Result}
+use Rattle.std.specs.List.{list_any}
+use Rattle.eac_base.specs.Causes.{Rose}
+use Rattle.keeper.specs.declared.rows.Row.{Row}
+use Rattle.keeper.specs.declared.rows.Part.{Part}
+use Rattle.keeper.specs.declared.rows.Part.TheVariants.{Register}
+use Rattle.std.specs.Str.{bytes_eq}
+use Rattle.keeper.specs.Rows.{is_of, most_rows}
+use Rattle.keeper.specs.declared.rows.Table.TheVariants.{Register as RegisterTable}
+use Rattle.issue_core.specs.declared.rule.Rule.{Rule}
+use Rattle.issue_core.specs.declared.rule.Rule.TheVariants.{Used, Full}
+use Rattle.issue_core.specs.declared.serving.RegisterAnswer.{RegisterAnswer}
+use Rattle.issue_core.specs.declared.serving.RegisterAnswer.TheVariants.{Issued as AnswerIssued, Kept as AnswerKept, Refused as AnswerRefused}
+use Rattle.issue_core.specs.declared.serving.IssueFault.{IssueFault}
+use Rattle.issue_core.specs.declared.serving.IssueFault.TheVariants.{KeeperFault, NoMemory as FaultNoMemory}
+use Rattle.issue_core.specs.Ledger.{Desk, TheKeeper, Entry, Outcome, Issued, Kept, Refused, Faulted, NoMemory, Delivery, entries}
+use Rattle.issue_core.specs.Story.{Decides, Story}
+
+-- ---- the desk
+
+-- one line asked of the register: its reference and bytes, and the day
+pub record Asked : Type 0 where
+  pub reference : List ℕ
+  pub bytes : List ℕ
+  pub day : List ℕ
+
+abbrev pub Request : Type 0
+Request = List ℕ × List ℕ
+
+abbrev pub same_request : Request → Request → Bool
+same_request a b = bytes_eq a.0 b.0 && bytes_eq a.1 b.1
+
+-- other bytes stand under this reference
+abbrev pub is_used : List (Request × List ℕ) → Request → Bool
+is_used es q = list_any (λ (e : Request × List ℕ). bytes_eq e.0.0 q.0 && not (bytes_eq e.0.1 q.1)) es
+
+abbrev pub first_rule : List (Request × List ℕ) → Asked → Option Rule
+first_rule es asked = if is_used es (asked.reference, asked.bytes) then Some Used else if nat_le most_rows (length es) then Some Full else None
+
+-- the only fault is the keeper's
+pub data Fault : Type 0 where
+  KeeperFailed : Fault
+
+abbrev pub register : Desk Asked Request (List ℕ) (List ℕ) Rule Fault
+register = record {
+  query = λ asked. (asked.reference, asked.bytes);
+  same = same_request;
+  reference = λ q. q.0;
+  face = λ day. day;
+  first = first_rule;
+  due = λ asked. Some asked.day;
+  cause = λ fault. TheKeeper;
+}
+
+-- an answer of the register needs no signature
+abbrev pub unsigned : Asked → List ℕ → Bool
+unsigned asked day = true
+
+-- ---- its stories
+
+abbrev pub Entries : Type 0
+Entries = List (Entry Request (List ℕ))
+
+abbrev pub Deliveries : Type 0
+Deliveries = List (Delivery Asked (List ℕ) Rule Fault)
+
+-- deliveries to the register, one after another, after these entries
+abbrev pub RegisterStory : Entries → Deliveries → Type 0
+RegisterStory = Story register unsigned
+
+-- a delivery, with the keeper's counts of faults before and after it; it has no provider
+abbrev pub delivery_of : Asked → ℕ × ℕ → Outcome (List ℕ) Rule Fault → Option (List ℕ) → Delivery Asked (List ℕ) Rule Fault
+delivery_of asked counts outcome left = record { case_of = asked; outcome = outcome; left = left; keeper = counts; provider = (0, 0); held = true }
+
+-- the number by which a journal tells a rule
+abbrev pub number_of : Rule → ℕ
+number_of Used = 2
+number_of Full = 12
+
+-- ---- its rows
+
+abbrev pub bytes_of : Part → List ℕ
+bytes_of (Register request day) = request
+
+abbrev pub day_of : Part → List ℕ
+day_of (Register request day) = day
+
+-- the entry of a row
+abbrev pub entry_of_row : Row → Entry Request (List ℕ)
+entry_of_row row = record { query = (row.reference, bytes_of row.part); product = day_of row.part }
+
+-- the ledger of the register: its rows at desk 0
+abbrev pub entries_of : List Row → Entries
+entries_of [] = []
+entries_of (row ∷ rows) = if is_of RegisterTable 0 row then entry_of_row row ∷ entries_of rows else entries_of rows
+
+-- the row of a request that was given a day
+abbrev pub row_of : List ℕ → List ℕ → List ℕ → Row
+row_of reference bytes day = record { desk = 0; reference = reference; part = Register bytes day }
+
+-- the rows of a ledger
+abbrev pub rows_of_ledger : Entries → List Row
+rows_of_ledger ledger = map (λ (e : Entry Request (List ℕ)). row_of e.query.0 e.query.1 e.product) ledger
+
+-- the row that a delivery added, where it left an entry
+abbrev pub rows_left : Asked → Option (List ℕ) → List Row
+rows_left asked None = []
+rows_left asked (Some day) = row_of asked.reference asked.bytes day ∷ []
+
+-- the rows that deliveries added, in their order
+abbrev pub rows_added : Deliveries → List Row
+rows_added ds = flat_map (λ (d : Delivery Asked (List ℕ) Rule Fault). rows_left d.case_of d.left) ds
+
+-- ---- one call
+
+-- the call was one delivery, and the row that it added is that of the entry that it left
+pub record Serves (before after : List Row) (asked : Asked) (counts : ℕ × ℕ) (outcome : Outcome (List ℕ) Rule Fault) : Type 0 where
+  pub left : Option (List ℕ)
+  pub decides : Decides register unsigned (entries_of before) (delivery_of asked counts outcome left)
+  pub rows : after ≡ before ++ rows_left asked left
+
+-- the answer of a call as the outcome of a delivery
+abbrev pub outcome_of : Result RegisterAnswer IssueFault → Outcome (List ℕ) Rule Fault
+outcome_of (Ok (AnswerIssued day)) = Issued day
+outcome_of (Ok (AnswerKept day)) = Kept day
+outcome_of (Ok (AnswerRefused rule)) = Refused rule
+outcome_of (Err KeeperFault) = Faulted KeeperFailed
+outcome_of (Err FaultNoMemory) = NoMemory
+
+-- what is answered where the reference has a row
+abbrev pub again_of : Part → List ℕ → RegisterAnswer
+again_of part bytes = if bytes_eq (bytes_of part) bytes then AnswerKept (day_of part) else AnswerRefused Used
+
+-- the count of faults has not fallen, and the keeper's fault came only where it rose
+pub record HasCause {T : Type 0} (before now : ℕ) (result : Result T IssueFault) : Type 0 where
+  pub later : before ≤ now
+  pub failed : result ≡ Err KeeperFault → Rose before now

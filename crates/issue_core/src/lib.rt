@@ -1,0 +1,27 @@
+//! Issuing: what a desk answers to a request, once for each request number.
+//!
+//! A desk's ledger has one entry for each request that was served. The same request again gets the first answer, whatever
+//! comes between; a new one is judged against the entries that stand, and the first rule that is broken refuses it.
+//! `specs/` says this once for every kind of desk: a `Desk` names what two deliveries of one request have in common,
+//! the request number, the rules and what is due, and a `Story` is what may happen over any list of deliveries, with
+//! faults and want of memory among them.
+//!
+//! The plain register is the first such desk: a reference with bytes is its request, and a day is what it gives.
+//! [`register`] serves one line of it over a keeper, and promises that the call was one delivery of the story.
+//! The functions of `laws` have no body: their contracts are the laws of its stories.
+//!
+//! Scripts, journals and messages are left to the layers above.
+#![tactic(auto)]
+
+mod laws;
+mod rule;
+mod serving;
+#[cfg(test)]
+mod tests;
+
+pub use laws::{
+    a_repeat_is_kept, a_story_goes_on, answers_are_due, one_entry_for_a_reference,
+    repeats_change_nothing, repeats_decide_nothing, rows_are_the_ledger,
+};
+pub use rule::Rule;
+pub use serving::{IssueFault, RegisterAnswer, register};

@@ -1,0 +1,143 @@
+// The plain register gives each reference once.
+ghost use Rattle.std.specs.Prelude.{◌≡◌, ◌≤◌, length};
+ghost use Rattle.eac_base.specs.Telling.{Told};
+ghost use Rattle.keeper.specs.Keeping.{MayAdd};
+ghost use Rattle.issue_core.specs.Register.{outcome_of, row_of, Serves, again_of, HasCause};
+ghost use Rattle.issue_core.specs.Steps.{Looks, Enters, answer_of};
+
+use crate::Rule;
+use eac_base::{NoMemory, Octets, is_same};
+use holder_reference::Reference;
+use keeper::{KeepRefusal, Keeper, MOST_ROWS, Part, Row, Table};
+use std::alloc::Global;
+
+/// What the register answers, with the day on which the reference was given in six ASCII digits.
+#[derive(Clone, Copy, Debug, PartialEq, Eq)]
+pub enum RegisterAnswer {
+    /// The reference is given now.
+    Issued([u8; 6]),
+    /// The reference was given to the same request on that day.
+    Kept([u8; 6]),
+    /// The first rule that is broken.
+    Refused(Rule),
+}
+
+/// Why a request got no answer. An entry may stand nevertheless, and then a repeat is answered with it.
+#[derive(Clone, Copy, Debug, PartialEq, Eq)]
+pub enum IssueFault {
+    /// A call of the keeper failed.
+    KeeperFault,
+    /// Memory is wanting.
+    NoMemory,
+}
+
+// What is answered where the reference has a row.
+fn answer_again(part: &Part, request: &[u8]) -> RegisterAnswer
+    ensures { result ≡ again_of part.now request.now }
+{
+    match part {
+        Part::Register { request: kept, day } => {
+            if is_same(kept.as_slice(), request) {
+                RegisterAnswer::Kept(*day)
+            } else {
+                RegisterAnswer::Refused(Rule::Used)
+            }
+        }
+    }
+}
+
+// The answer where no row is to be added.
+fn look<B: Keeper>(
+    alloc: Global,
+    reference: &Reference,
+    request: &[u8],
+    keeper: &mut B,
+) -> Result<Option<RegisterAnswer>, IssueFault>
+    ensures told { Told (B.rows keeper.old) (B.rows keeper.new) (λ before after. (after ≡ before) × Looks before reference.now request.now result) }
+    ensures cause { HasCause (B.faults keeper.old) (B.faults keeper.new) result }
+{
+    match keeper.find(alloc, Table::Register, 0, reference) {
+        Ok(Some(row)) => return Ok(Some(answer_again(&row.part, request))),
+        Ok(None) => {}
+        Err(KeepRefusal::Failed) => return Err(IssueFault::KeeperFault),
+        Err(_) => return Err(IssueFault::NoMemory),
+    }
+    match keeper.count(alloc, Table::Register, 0) {
+        Ok(count) => {
+            if MOST_ROWS <= count {
+                Ok(Some(RegisterAnswer::Refused(Rule::Full)))
+            } else {
+                Ok(None)
+            }
+        }
+        Err(KeepRefusal::Failed) => Err(IssueFault::KeeperFault),
+        Err(_) => Err(IssueFault::NoMemory),
+    }
+}
+
+// What is answered to an adding. A keeper that tells its rows is never full nor has the key where one has just looked;
+// the answer of another one is passed on as the rule that it says.
+fn answer_of(
+    added: Result<(), KeepRefusal>,
+    day: [u8; 6],
+    request: &[u8],
+) -> Result<RegisterAnswer, IssueFault>
+    ensures { result ≡ answer_of added day request.now }
+{
+    match added {
+        Ok(()) => Ok(RegisterAnswer::Issued(day)),
+        Err(KeepRefusal::Twice(kept)) => Ok(answer_again(&kept.part, request)),
+        Err(KeepRefusal::Full) => Ok(RegisterAnswer::Refused(Rule::Full)),
+        Err(KeepRefusal::Failed) => Err(IssueFault::KeeperFault),
+        Err(KeepRefusal::Absent) => Err(IssueFault::NoMemory),
+        Err(KeepRefusal::NoMemory) => Err(IssueFault::NoMemory),
+    }
+}
+
+// Adds the row.
+fn enter<B: Keeper>(
+    alloc: Global,
+    day: [u8; 6],
+    reference: &Reference,
+    request: &[u8],
+    keeper: &mut B,
+) -> Result<RegisterAnswer, IssueFault>
+    requires { length request.now ≤ 65535 }
+    ensures told { Told (B.rows keeper.old) (B.rows keeper.new) (λ before after. MayAdd before (row_of reference.now request.now day) → Enters before after (row_of reference.now request.now day) result) }
+    ensures cause { HasCause (B.faults keeper.old) (B.faults keeper.new) result }
+{
+    let Ok(kept) = Octets::from_slice(alloc, request) else {
+        return Err(IssueFault::NoMemory);
+    };
+    let row = Row {
+        desk: 0,
+        reference: *reference,
+        part: Part::Register { request: kept, day },
+    };
+    let added = keeper.add(alloc, &row);
+    answer_of(added, day, request)
+}
+
+/// Serves one line of the register: gives the reference to the request, which has at most 65,535 bytes, on this day.
+///
+/// The same request again is `Kept` with its first day. Other bytes under the reference break rule 2, `Used`; then
+/// 100,000 entries break rule 12, `Full`. A fault of the keeper comes only where its count rose. After a fault or want
+/// of memory the row may stand, where the keeper kept it; after a refusal none was added.
+pub fn register<B: Keeper>(
+    alloc: Global,
+    day: [u8; 6],
+    reference: &Reference,
+    request: &[u8],
+    keeper: &mut B,
+) -> Result<RegisterAnswer, IssueFault>
+    requires { length request.now ≤ 65535 }
+    // Where the rows are told after the call, it was one delivery, with the rows before it as the ledger.
+    ensures delivery { Told (B.rows keeper.old) (B.rows keeper.new) (λ before after. Serves before after
+        (record { reference = reference.now; bytes = request.now; day = day }) (B.faults keeper.old, B.faults keeper.new) (outcome_of result)) }
+    ensures cause { HasCause (B.faults keeper.old) (B.faults keeper.new) result }
+{
+    match look(alloc, reference, request, keeper)? {
+        Some(answer) => Ok(answer),
+        None => enter(alloc, day, reference, request, keeper),
+    }
+}

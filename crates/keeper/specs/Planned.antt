@@ -1,0 +1,59 @@
+-- A keeper in memory, whose calls fail by a plan of call numbers, counted from 1 (this project's own).
+use Rattle.std.specs.Prelude.{◌≡◌, ◌≢◌, ◌⊎◌, ℕ, ◌+◌, ◌-◌, ◌^◌, List, [], ◌∷◌, ◌++◌, Ok, Err, Some, None, option_map, nat_eq, nat_lt, if◌then◌else◌}
+use Rattle.std.specs.List.{find}
+use Rattle.std.specs.declared.option.Option.{Option}
+use Rattle.std.specs.declared.result.Result.{Result}
+use Rattle.eac_base.specs.Planned.{next_count}
+use Rattle.keeper.specs.declared.rows.Row.{Row}
+use Rattle.keeper.specs.declared.plan.Moment.{Moment}
+use Rattle.keeper.specs.declared.plan.Moment.TheVariants.{Before, After}
+use Rattle.keeper.specs.declared.traits.KeepRefusal.{KeepRefusal}
+use Rattle.keeper.specs.declared.traits.KeepRefusal.TheVariants.{Failed, NoMemory}
+use Rattle.keeper.specs.Rows.{UniqueKeys}
+use Rattle.keeper.specs.Keeping.{MayAdd}
+
+-- A keeper in memory: its rows, its plan, and its numbers of calls and of faults.
+pub record KeeperValue : Type 0 where
+  pub rows : List Row
+  pub plan : List (ℕ × Moment)
+  pub calls : ℕ
+  pub faults : ℕ
+  pub unique : UniqueKeys rows
+
+-- ---- when a call fails
+
+-- when the call of this number fails: as the first pair with that number says
+abbrev pub moment_at : List (ℕ × Moment) → ℕ → Option Moment
+moment_at plan call = option_map (λ (pair : ℕ × Moment). pair.1) (find (λ (pair : ℕ × Moment). nat_eq pair.0 call) plan)
+
+-- when the call after so many calls fails; a call that isn't counted any more doesn't
+abbrev pub next_moment : List (ℕ × Moment) → ℕ → Option Moment
+next_moment plan calls = if nat_lt calls (2 ^ 64 - 1) then moment_at plan (calls + 1) else None
+
+-- the count of faults after a call that fails at this moment, or doesn't fail
+abbrev pub faults_after : Option Moment → ℕ → ℕ
+faults_after None faults = faults
+faults_after (Some moment) faults = next_count faults
+
+-- the call was counted, and its failing where it fails; the plan stays
+pub record IsCounted (old new : KeeperValue) : Type 0 where
+  pub plan : new.plan ≡ old.plan
+  pub calls : new.calls ≡ next_count old.calls
+  pub faults : new.faults ≡ faults_after (next_moment old.plan old.calls) old.faults
+
+-- ---- what a failing call does
+
+-- the row stands at the end where it may be added, and else nothing has changed
+abbrev pub WithRow : List Row → List Row → Row → Type 0
+WithRow old new row = (MayAdd old row × (new ≡ old ++ row ∷ [])) ⊎ ((MayAdd old row → ⊥) × (new ≡ old))
+
+-- an adding that fails at this moment, or doesn't fail. One that fails after its change may want memory for it.
+abbrev pub AddsAt : {U : Type 0} → Option Moment → List Row → List Row → Row → Result U KeepRefusal → Type 0
+AddsAt None old new row result = result ≢ Err Failed
+AddsAt (Some Before) old new row result = (result ≡ Err Failed) × (new ≡ old)
+AddsAt (Some After) old new row result = ((result ≡ Err Failed) × WithRow old new row) ⊎ ((result ≡ Err NoMemory) × (new ≡ old))
+
+-- a reading that fails at this moment, or doesn't fail
+abbrev pub ReadsAt : {T : Type 0} → Option Moment → Result T KeepRefusal → Type 0
+ReadsAt None result = result ≢ Err Failed
+ReadsAt (Some moment) result = result ≡ Err Failed
