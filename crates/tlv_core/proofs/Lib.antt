@@ -1,0 +1,5 @@
+pub mod Steps
+pub mod Objects
+pub mod ReadFront
+pub mod More
+pub mod Rows
