@@ -60,3 +60,10 @@ read_reference bytes =
     >> unless (has_mnemonic (holder_part bytes)) Mnemonic
     >> unless (is_sequence (sequence_part bytes)) Sequence
     >> Ok bytes
+
+abbrev pub read_holder : List ℕ → Result (List ℕ) RefRefusal
+read_holder bytes =
+    unless (is_within 3 11 (length bytes)) Length
+    >> unless (has_country bytes) Country
+    >> unless (has_mnemonic bytes) Mnemonic
+    >> Ok bytes
