@@ -8,8 +8,8 @@ use Rattle.std.proofs.lemmas.Grind.{common_steps}
 use Rattle.std.proofs.lemmas.Int.Digits.{digits_value_more}
 use Rattle.std.proofs.lemmas.List.Folds.{list_all_at}
 use Rattle.std.proofs.lemmas.Str.Parse.{digits_value-take-le}
-use Rattle.holder_reference.specs.Reference.{is_digit}
-use Rattle.holder_reference.specs.Sequence.{is_decimal, number_said, five_digits}
+use Rattle.eac_base.specs.Text.{is_digit}
+use Rattle.holder_reference.specs.Sequence.{is_decimal_sequence, number_said, five_digits}
 
 -- ---- one digit
 
@@ -38,7 +38,7 @@ record AreDigitsOf (a b c d e n : ℕ) : Type 0 where
   fifth : (48 ≤ e) × (e ≤ 57)
   number : n ≡ 10000 * (a - 48) + 1000 * (b - 48) + 100 * (c - 48) + 10 * (d - 48) + (e - 48)
 
-digits_of_cells : (a b c d e : ℕ) → IsTrue (is_decimal (a ∷ b ∷ c ∷ d ∷ e ∷ [])) → AreDigitsOf a b c d e (number_said (a ∷ b ∷ c ∷ d ∷ e ∷ []))
+digits_of_cells : (a b c d e : ℕ) → IsTrue (is_decimal_sequence (a ∷ b ∷ c ∷ d ∷ e ∷ [])) → AreDigitsOf a b c d e (number_said (a ∷ b ∷ c ∷ d ∷ e ∷ []))
 digits_of_cells a b c d e is =
     let p = both (is_digit a) (list_all is_digit (b ∷ c ∷ d ∷ e ∷ [])) is in
     let q = both (is_digit b) (list_all is_digit (c ∷ d ∷ e ∷ [])) p.1 in
@@ -64,7 +64,7 @@ cells_again a b c d e n h =
     (omega arith, rw (first, second, third, fourth, fifth) refl)
 
 -- A decimal sequence is the five digits of its number.
-pub decimals_are_numbers : (s : List ℕ) → IsTrue (is_decimal s) → (number_said s < 100000) × (five_digits (number_said s) ≡ s)
+pub decimals_are_numbers : (s : List ℕ) → IsTrue (is_decimal_sequence s) → (number_said s < 100000) × (five_digits (number_said s) ≡ s)
 decimals_are_numbers [] is = cc
 decimals_are_numbers (a ∷ []) is = cc
 decimals_are_numbers (a ∷ b ∷ []) is = cc
@@ -76,16 +76,16 @@ decimals_are_numbers (a ∷ b ∷ c ∷ d ∷ e ∷ f ∷ s) is = absurd (grind 
 -- ---- counting them up
 
 -- One digit more, of decimal digits read so far.
-pub one_more : (s : List ℕ) (i n : ℕ) → IsTrue (is_decimal s) → i < length s → n ≡ number_said (take i s)
+pub one_more : (s : List ℕ) (i n : ℕ) → IsTrue (is_decimal_sequence s) → i < length s → n ≡ number_said (take i s)
     → number_said (take (i + 1) s) ≡ 10 * n + (get_or s i 0 - 48)
 one_more s i n is inside said =
     let all : IsTrue (list_all is_digit s) = grind (arith, nat_tests) in
     rw (digits_value_more 10 s i inside, worth (get_or s i 0) (digit_at s i all inside)) (omega arith)
 
-pub digit_there : (s : List ℕ) (i : ℕ) → IsTrue (is_decimal s) → i < length s → (48 ≤ get_or s i 0) × (get_or s i 0 ≤ 57)
+pub digit_there : (s : List ℕ) (i : ℕ) → IsTrue (is_decimal_sequence s) → i < length s → (48 ≤ get_or s i 0) × (get_or s i 0 ≤ 57)
 digit_there s i is inside =
     let all : IsTrue (list_all is_digit s) = grind (arith, nat_tests) in
     within_digits (get_or s i 0) (digit_at s i all inside)
 
-pub none_is_more : (s : List ℕ) (i : ℕ) → IsTrue (is_decimal s) → number_said (take i s) < 100000
+pub none_is_more : (s : List ℕ) (i : ℕ) → IsTrue (is_decimal_sequence s) → number_said (take i s) < 100000
 none_is_more s i is = let whole = (decimals_are_numbers s is).0 in omega (arith, digits_value-take-le 10 s i (omega arith))

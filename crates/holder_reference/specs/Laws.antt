@@ -1,7 +1,7 @@
 -- What holds of each legal text: parts and whole, reading again, numbers and their digits.
 use Rattle.std.specs.Prelude.{◌≡◌, ℕ, ◌<◌, List, ◌++◌, Ok, IsTrue}
 use Rattle.holder_reference.specs.Reference.{is_holder, is_sequence, is_reference, holder_part, sequence_part, read_holder, read_reference}
-use Rattle.holder_reference.specs.Sequence.{five_digits, is_decimal, number_said}
+use Rattle.holder_reference.specs.Sequence.{five_digits, is_decimal_sequence, number_said}
 
 -- The parts of a reference are a holder and a sequence, and joined they are the reference.
 pub record HasParts (reference : List ℕ) : Type 0 where
@@ -30,9 +30,9 @@ HoldersAreRead = (holder : List ℕ) → IsTrue (is_holder holder) → read_hold
 
 -- A number has one decimal sequence, and a decimal sequence one number.
 abbrev pub NumbersAreSaid : Type 0
-NumbersAreSaid = (n : ℕ) → n < 100000 → IsTrue (is_decimal (five_digits n)) × (number_said (five_digits n) ≡ n)
+NumbersAreSaid = (n : ℕ) → n < 100000 → IsTrue (is_decimal_sequence (five_digits n)) × (number_said (five_digits n) ≡ n)
 
 abbrev pub DecimalsAreNumbers : Type 0
 DecimalsAreNumbers =
-    (sequence : List ℕ) → IsTrue (is_decimal sequence)
+    (sequence : List ℕ) → IsTrue (is_decimal_sequence sequence)
     → (number_said sequence < 100000) × (five_digits (number_said sequence) ≡ sequence)

@@ -2,7 +2,8 @@
 ghost use Rattle.std.specs.Prelude.{◌≡◌, ℕ, ◌+◌, ◌%◌, ◌<◌, ◌⊎◌, None, Some, IfSome, IsTrue, ◌↔◌, if◌then◌else◌};
 ghost use Rattle.std.specs.List.{list_all};
 ghost use Rattle.std.specs.Str.{bytes_eq};
-ghost use Rattle.holder_reference.specs.Reference.{is_sequence, is_digit};
+ghost use Rattle.eac_base.specs.Text.{is_digit};
+ghost use Rattle.holder_reference.specs.Reference.{is_sequence};
 ghost use Rattle.holder_reference.specs.Sequence as count;
 
 use std::marker::Model;
@@ -68,7 +69,7 @@ fn are_digits(bytes: &[u8]) -> bool
 
 /// The number that five digits say.
 fn number_said(digits: &[u8]) -> u32
-    requires { IsTrue (count.is_decimal digits.now) }
+    requires { IsTrue (count.is_decimal_sequence digits.now) }
     ensures said { result ≡ count.number_said digits.now }
     ensures below { result < 100000 }
 {
