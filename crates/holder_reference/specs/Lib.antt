@@ -1,2 +1,4 @@
+pub mod Laws
 pub mod Reference
 pub mod Refused
+pub mod Sequence

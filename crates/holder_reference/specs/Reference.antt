@@ -3,15 +3,12 @@
 use Rattle.std.specs.Prelude.{ℕ, ◌-◌, ◌==◌, List, length, take, drop, Bool, ◌&&◌, ◌||◌, Result, Ok}
 use Rattle.std.specs.List.{list_all}
 use Rattle.eac_base.specs.Bytes.{is_within}
+use Rattle.eac_base.specs.Text.{is_digit}
 use Rattle.eac_base.specs.Answers.{◌>>◌, unless}
 use Rattle.holder_reference.specs.declared.refusal.RefRefusal.{RefRefusal}
 use Rattle.holder_reference.specs.declared.refusal.RefRefusal.TheVariants.{Length, Country, Mnemonic, Sequence}
 
 -- ---- bytes
-
--- 0 to 9
-abbrev pub is_digit : ℕ → Bool
-is_digit b = is_within 0x30 0x39 b
 
 -- A to Z
 abbrev pub is_capital : ℕ → Bool
@@ -59,4 +56,11 @@ read_reference bytes =
     >> unless (has_country (holder_part bytes)) Country
     >> unless (has_mnemonic (holder_part bytes)) Mnemonic
     >> unless (is_sequence (sequence_part bytes)) Sequence
+    >> Ok bytes
+
+abbrev pub read_holder : List ℕ → Result (List ℕ) RefRefusal
+read_holder bytes =
+    unless (is_within 3 11 (length bytes)) Length
+    >> unless (has_country bytes) Country
+    >> unless (has_mnemonic bytes) Mnemonic
     >> Ok bytes

@@ -5,6 +5,7 @@ use Rattle.holder_reference.specs.declared.refusal.RefRefusal.{RefRefusal}
 use Rattle.holder_reference.specs.declared.refusal.RefRefusal.TheVariants.{Length, Country, Mnemonic, Sequence}
 use Rattle.holder_reference.specs.Reference.{holder_part, sequence_part, has_country, has_mnemonic, is_sequence}
 
+-- as a reference
 abbrev pub IsRefused : List ℕ → RefRefusal → Type 0
 IsRefused bytes Length = is_within 8 16 (length bytes) ≡ false
 IsRefused bytes Country = IsTrue (is_within 8 16 (length bytes)) × (has_country (holder_part bytes) ≡ false)
@@ -14,6 +15,14 @@ IsRefused bytes Mnemonic =
 IsRefused bytes Sequence =
     IsTrue (is_within 8 16 (length bytes)) × IsTrue (has_country (holder_part bytes))
     × IsTrue (has_mnemonic (holder_part bytes)) × (is_sequence (sequence_part bytes) ≡ false)
+
+-- as a holder
+abbrev pub IsRefusedHolder : List ℕ → RefRefusal → Type 0
+IsRefusedHolder bytes Length = is_within 3 11 (length bytes) ≡ false
+IsRefusedHolder bytes Country = IsTrue (is_within 3 11 (length bytes)) × (has_country bytes ≡ false)
+IsRefusedHolder bytes Mnemonic =
+    IsTrue (is_within 3 11 (length bytes)) × IsTrue (has_country bytes) × (has_mnemonic bytes ≡ false)
+IsRefusedHolder bytes Sequence = ⊥
 
 abbrev pub refusal_number : RefRefusal → ℕ
 refusal_number Length = 1

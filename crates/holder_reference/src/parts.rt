@@ -1,6 +1,7 @@
 // The tests on the parts of a reference, byte by byte.
 ghost use Rattle.std.specs.Prelude.{◌≡◌, ◌||◌, take};
 ghost use Rattle.std.specs.List.{list_all};
+ghost use Rattle.eac_base.specs.Text.{is_digit};
 ghost use Rattle.holder_reference.specs.Reference as text;
 
 /// Whether the first two bytes, of a holder, are capital letters.
@@ -22,7 +23,7 @@ pub fn are_printed(bytes: &[u8]) -> bool
 
 /// Whether each byte is a digit or a capital letter.
 pub fn are_digits_or_capitals(bytes: &[u8]) -> bool
-    ensures { result ≡ list_all (λ b. text.is_digit b || text.is_capital b) bytes.now }
+    ensures { result ≡ list_all (λ b. is_digit b || text.is_capital b) bytes.now }
 {
     bytes.iter().all(|b| (b'0' <= *b && *b <= b'9') || (b'A' <= *b && *b <= b'Z'))
 }

@@ -1,12 +1,14 @@
 // A reference as a value of fixed size.
-ghost use Rattle.std.specs.Prelude.{◌≡◌, Some, IfOk, IfErr, IsTrue, ◌↔◌, is_ok};
+ghost use Rattle.std.specs.Prelude.{◌≡◌, ◌++◌, Some, IfOk, IfErr, IsTrue, ◌↔◌, is_ok};
 ghost use Rattle.std.specs.Str.{bytes_eq};
 ghost use Rattle.eac_base.specs.Answers.{Answers};
 ghost use Rattle.holder_reference.specs.Reference as text;
 ghost use Rattle.holder_reference.specs.Refused.{IsRefused};
 
+use crate::holder::{Holder, keep_holder};
 use crate::parts::{are_digits_or_capitals, are_printed, has_country};
 use crate::refusal::RefRefusal;
+use crate::sequence::{Sequence, keep_sequence};
 use std::marker::Model;
 
 /// The reference of a holder or of an authority: 8 to 16 bytes, seen as their list. Each is legal.
@@ -56,7 +58,18 @@ pub fn read_reference(bytes: &[u8]) -> Result<Reference, RefRefusal>
     Ok(keep_reference(bytes))
 }
 
-/// The tested bytes in an array of their own.
+/// The reference of the holder with this sequence behind it.
+pub fn join(holder: &Holder, sequence: &Sequence) -> Reference
+    ensures { result ≡ holder.now ++ sequence.now }
+{
+    let (holder, sequence) = (holder.as_slice(), sequence.as_slice());
+    let mut joined = [0u8; 16];
+    joined[..holder.len()].copy_from_slice(holder);
+    joined[holder.len()..holder.len() + 5].copy_from_slice(sequence);
+    keep_reference(&joined[..holder.len() + 5])
+}
+
+/// The tested bytes, kept.
 fn keep_reference(bytes: &[u8]) -> Reference
     requires { IsTrue (text.is_reference bytes.now) }
     ensures { result ≡ bytes.now }
@@ -76,6 +89,24 @@ impl Reference {
         ensures legal { IsTrue (text.is_reference self.now) }
     {
         &self.bytes[..self.len]
+    }
+
+    /// Who holds it: all but the last five bytes.
+    pub fn holder(&self) -> Holder
+        ensures { result ≡ text.holder_part self.now }
+    {
+        let bytes = self.as_slice();
+        let (holder, _) = bytes.split_at(bytes.len() - 5);
+        keep_holder(holder)
+    }
+
+    /// Its sequence: the last five bytes.
+    pub fn sequence(&self) -> Sequence
+        ensures { result ≡ text.sequence_part self.now }
+    {
+        let bytes = self.as_slice();
+        let (_, sequence) = bytes.split_at(bytes.len() - 5);
+        keep_sequence(sequence)
     }
 
     /// Whether both are the same reference, byte for byte.
