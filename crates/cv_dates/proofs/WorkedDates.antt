@@ -1,4 +1,4 @@
--- Worked rows, computed.
+-- Days and refusals of some dates, computed by the definitions.
 use Rattle.std.specs.Prelude.{◌≡◌, codes, refl, Ok, Err, [], ◌∷◌, sum}
 use Rattle.cv_dates.specs.declared.refusal.DateRefusal.TheVariants.{Length, Digit, NoSuchDay}
 use Rattle.cv_dates.specs.Calendar.{read_date, day_text, all_months}

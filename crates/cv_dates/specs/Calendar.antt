@@ -27,7 +27,7 @@ is_date year month day = nat_lt year 100 && is_within 1 12 month && is_within 1 
 abbrev pub day_number : ℕ → ℕ → ℕ → ℕ
 day_number year month day = sum (take (12 * year + (month - 1)) all_months) + (day - 1)
 
--- 2099-12-31.
+-- The number of 2099-12-31.
 abbrev pub last_day : ℕ
 last_day = 36524
 

@@ -1,10 +1,12 @@
+// A day, and what is computed with days.
+
 ghost use Rattle.std.specs.Prelude.{◌≡◌, ◌↔◌, ◌<◌, ◌≤◌, IsTrue};
 ghost use Rattle.cv_dates.specs.Calendar as words;
 ghost use Rattle.cv_dates.specs.Calendar.{last_day};
 
 use std::marker::Model;
 
-/// 2099-12-31.
+/// The number of 2099-12-31.
 const LAST_DAY: u32 = 36_524;
 
 /// A day of the years 2000 to 2099, seen as the number of days since 2000-01-01.

@@ -21,13 +21,24 @@ pub fn read_date(bytes: &[u8]) -> Result<Day, DateRefusal>
     ensures found { IfOk result (λ day. IsDateOf day bytes.now) }
     ensures only { (number : ℕ) → IsDateOf number bytes.now → result ≡ Ok number }
 {
-    let [y, year, m, month, d, day] = bytes else {
+    let [
+        year_tens,
+        year_ones,
+        month_tens,
+        month_ones,
+        day_tens,
+        day_ones,
+    ] = bytes
+    else {
         return Err(DateRefusal::Length);
     };
     if !all_digits(bytes) {
         return Err(DateRefusal::Digit);
     }
-    named_day(10 * *y + *year, 10 * *m + *month, 10 * *d + *day)
+    let year = 10 * *year_tens + *year_ones;
+    let month = 10 * *month_tens + *month_ones;
+    let day = 10 * *day_tens + *day_ones;
+    named_day(year, month, day)
 }
 
 /// The six digits YYMMDD of a day, each of them a byte 0 to 9 (BSI TR-03110-3).

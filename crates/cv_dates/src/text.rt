@@ -22,19 +22,27 @@ pub fn day_from_text(text: &[u8]) -> Result<Day, DateRefusal>
     ensures found { IfOk result (λ day. IsTextOf day text.now) }
     ensures only { (number : ℕ) → IsTextOf number text.now → result ≡ Ok number }
 {
-    let [y, year, m, month, d, day] = text else {
+    let [
+        year_tens,
+        year_ones,
+        month_tens,
+        month_ones,
+        day_tens,
+        day_ones,
+    ] = text
+    else {
         return Err(DateRefusal::Length);
     };
     if !all_ascii_digits(text) {
         return Err(DateRefusal::Digit);
     }
     read_date(&[
-        *y - b'0',
-        *year - b'0',
-        *m - b'0',
-        *month - b'0',
-        *d - b'0',
-        *day - b'0',
+        *year_tens - b'0',
+        *year_ones - b'0',
+        *month_tens - b'0',
+        *month_ones - b'0',
+        *day_tens - b'0',
+        *day_ones - b'0',
     ])
 }
 
@@ -44,14 +52,21 @@ pub fn day_text(day: Day) -> [u8; 6]
     ensures named { IsTextOf day result }
     ensures legal { day ≤ last_day }
 {
-    let [y, year, m, month, d, day] = put_date(day);
+    let [
+        year_tens,
+        year_ones,
+        month_tens,
+        month_ones,
+        day_tens,
+        day_ones,
+    ] = put_date(day);
     [
-        b'0' + y,
-        b'0' + year,
-        b'0' + m,
-        b'0' + month,
-        b'0' + d,
-        b'0' + day,
+        b'0' + year_tens,
+        b'0' + year_ones,
+        b'0' + month_tens,
+        b'0' + month_ones,
+        b'0' + day_tens,
+        b'0' + day_ones,
     ]
 }
 
