@@ -1,33 +1,21 @@
 -- The register's look-ups by key agree with its ledger.
-use Rattle.std.proofs.Common.{◌≡◌, ℕ, ◌+◌, ◌<◌, ◌≤◌, Bool, true, false, cond, List, [], ◌∷◌, ◌++◌, length, Some, None, Ok, Err, refl, sym, ap, ◌∙◌, subst, arith, true≢false, nat_eq, append-nil, ⊎_elim}
+use Rattle.std.proofs.Common.{◌≡◌, ℕ, ◌+◌, ◌<◌, ◌≤◌, Bool, true, false, cond, List, [], ◌∷◌, length, Some, None, refl, sym, ap, ◌∙◌, arith, true≢false, nat_eq}
 use Rattle.std.proofs.lemmas.Bool.{le-leb, lt-leb, eqb-true}
 use Rattle.std.proofs.lemmas.List.Sums.{sum_by-cons}
-use Rattle.std.specs.Prelude.{◌&&◌, ◌||◌, not, IfSome, nat_le}
+use Rattle.std.specs.Prelude.{◌&&◌, ◌||◌, not, nat_le}
 use Rattle.std.specs.List.{list_all}
 use Rattle.std.specs.declared.option.Option.{Option}
-use Rattle.std.specs.declared.result.Result.{Result}
-use Rattle.eac_base.specs.Causes.{Rose}
 use Rattle.keeper.specs.declared.rows.Row.{Row}
 use Rattle.keeper.specs.declared.rows.Part.{Part}
 use Rattle.keeper.specs.declared.rows.Table.TheVariants.{Register as RegisterTable}
 use Rattle.std.specs.Str.{bytes_eq}
-use Rattle.eac_base.specs.Telling.{Told}
-use Rattle.eac_base.proofs.Tellings.{told_then}
 use Rattle.keeper.specs.declared.rows.Table.{Table}
 use Rattle.keeper.specs.Rows.{table_of, same_table, is_of, row_at, rows_of, own_row, most_rows, UniqueKeys}
-use Rattle.keeper.specs.Keeping.{MayAdd}
 use Rattle.eac_base.proofs.EqualBytes.{bytes_eq-true, bytes_eq-self}
 use Rattle.keeper.proofs.UniqueRows.{unique_parts}
-use Rattle.issue_core.specs.declared.rule.Rule.{Rule}
 use Rattle.issue_core.specs.declared.rule.Rule.TheVariants.{Used, Full}
-use Rattle.issue_core.specs.declared.serving.RegisterAnswer.{RegisterAnswer}
-use Rattle.issue_core.specs.declared.serving.RegisterAnswer.TheVariants.{Issued, Kept, Refused}
-use Rattle.issue_core.specs.declared.serving.IssueFault.{IssueFault}
-use Rattle.issue_core.specs.declared.serving.IssueFault.TheVariants.{KeeperFault, NoMemory}
-use Rattle.issue_core.specs.Ledger.{Entry, Outcome, Issued as IssuedOutcome, Faulted, MayLeave, faces, kept_for, IsUnused}
-use Rattle.issue_core.specs.Story.{Adds}
-use Rattle.issue_core.specs.Register.{Request, Asked, Fault, KeeperFailed, Entries, register, unsigned, delivery_of, is_used, first_rule, Serves, entries_of, entry_of_row, bytes_of, day_of, again_of, outcome_of, row_of}
-use Rattle.issue_core.specs.Steps.{Looks, Enters}
+use Rattle.issue_core.specs.Ledger.{Entry, faces, kept_for, IsUnused}
+use Rattle.issue_core.specs.Register.{Request, Asked, Entries, register, is_used, first_rule, entries_of, entry_of_row, bytes_of, day_of}
 
 -- no entry has this reference
 abbrev lacks : Entries → List ℕ → Bool

@@ -16,7 +16,7 @@ use Rattle.issue_core.specs.declared.serving.RegisterAnswer.{RegisterAnswer}
 use Rattle.issue_core.specs.declared.serving.RegisterAnswer.TheVariants.{Issued as AnswerIssued, Kept as AnswerKept, Refused as AnswerRefused}
 use Rattle.issue_core.specs.declared.serving.IssueFault.{IssueFault}
 use Rattle.issue_core.specs.declared.serving.IssueFault.TheVariants.{KeeperFault, NoMemory as FaultNoMemory}
-use Rattle.issue_core.specs.Ledger.{Desk, TheKeeper, Entry, Outcome, Issued, Kept, Refused, Faulted, NoMemory, Delivery, entries}
+use Rattle.issue_core.specs.Ledger.{Desk, TheKeeper, Entry, Outcome, Issued, Kept, Refused, Faulted, NoMemory, Delivery}
 use Rattle.issue_core.specs.Story.{Decides, Story}
 
 -- ---- the desk

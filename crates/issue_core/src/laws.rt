@@ -1,5 +1,4 @@
 // The laws of the register's stories. Each is the contract of a function that does nothing.
-ghost use Rattle.std.specs.Prelude.{◌≡◌};
 ghost use Rattle.issue_core.specs.Laws.{GoesOn, StruckIsStory, OneReference, StruckDecides, RepeatIsKept, AnswersAreDue, RowsAreLedger};
 
 /// A story goes on by each delivery that the register may make after it.

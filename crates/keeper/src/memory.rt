@@ -1,13 +1,13 @@
 // A keeper in memory, over a plain list. Its calls fail by a plan.
-ghost use Rattle.std.specs.Prelude.{◌≡◌, ◌≢◌, ◌⊎◌, ℕ, ◌<◌, List, [], ◌∷◌, ◌++◌, Some, None, Err, IfSome, true};
+ghost use Rattle.std.specs.Prelude.{◌≡◌, ◌≢◌, [], Some, Err, IfSome};
 ghost use Rattle.std.specs.List.{AllByRecursion};
 ghost use Rattle.std.specs.Option.{option_copied};
 ghost use Rattle.eac_base.specs.Telling.{Told};
-ghost use Rattle.keeper.specs.declared.traits.KeepRefusal.TheVariants.{Failed, NoMemory as WantsMemory};
+ghost use Rattle.keeper.specs.declared.traits.KeepRefusal.TheVariants.{Failed};
 ghost use Rattle.keeper.specs.declared.plan.Moment.TheVariants.{After as AfterChange};
 ghost use Rattle.keeper.specs.Rows.{row_at, rows_of, UniqueKeys, IsStorable};
 ghost use Rattle.keeper.specs.Keeping.{Adds, AddAsked, Finds, FindAsked, Counts, CountAsked, FaultRose, IsAsked};
-ghost use Rattle.keeper.specs.Planned.{KeeperValue, next_moment, IsCounted, AddsAt, ReadsAt, WithRow};
+ghost use Rattle.keeper.specs.Planned.{next_moment, IsCounted, AddsAt, ReadsAt};
 
 use crate::plan::begin;
 use crate::{KeepRefusal, Keeper, KeeperPlan, MOST_ROWS, Moment, Row, Table};

@@ -1,5 +1,5 @@
 // Which calls of a keeper in memory fail, and when.
-ghost use Rattle.std.specs.Prelude.{◌≡◌, ℕ, ◌+◌, List, [], ◌∷◌, ◌++◌, length, OnOk, OnErr, slice_get};
+ghost use Rattle.std.specs.Prelude.{◌≡◌, [], ◌∷◌, ◌++◌, length, OnOk, OnErr, slice_get};
 ghost use Rattle.std.specs.Option.{option_copied};
 ghost use Rattle.eac_base.specs.Planned.{next_count};
 ghost use Rattle.keeper.specs.Planned.{moment_at, next_moment, faults_after};
