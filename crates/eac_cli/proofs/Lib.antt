@@ -1,0 +1,9 @@
+pub mod CommandWords
+pub mod Cuts
+pub mod Ends
+pub mod Hexes
+pub mod MayRun
+pub mod Orders
+pub mod Reading
+pub mod Runs
+pub mod Turning

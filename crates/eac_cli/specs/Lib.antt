@@ -1,0 +1,9 @@
+pub mod Journal
+pub mod LineGrammar
+pub mod Lines
+pub mod Script
+pub mod ScriptLaws
+pub mod State
+pub mod Steps
+pub mod Top
+pub mod Turn

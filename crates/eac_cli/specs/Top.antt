@@ -1,0 +1,149 @@
+-- What the top call did, by its status (this project's own).
+use Rattle.std.specs.Prelude.{◌≡◌, ◌⊎◌, ℕ, ◌+◌, ◌<◌, ◌≤◌, List, [], ◌∷◌, ◌++◌, length, map, take, codes, Option, Some, None, slice_get}
+use Rattle.std.specs.Io.KnownBytes.{IsAtEnd, Appends}
+use Rattle.eac_base.specs.Causes.{Rose}
+use Rattle.eac_base.specs.Telling.{Told}
+use Rattle.keeper.specs.declared.rows.Row.{Row}
+use Rattle.issue_core.specs.declared.rule.Rule.{Rule}
+use Rattle.issue_core.specs.Ledger.{Delivery, entries}
+use Rattle.issue_core.specs.Register.{Asked, Fault, Deliveries, register, RegisterStory, entries_of, rows_of_ledger}
+use Rattle.eac_cli.specs.declared.event.Event.{Event}
+use Rattle.eac_cli.specs.declared.event.Event.TheVariants.{Day, Ask}
+use Rattle.eac_cli.specs.declared.event.EventLine.{EventLine}
+use Rattle.eac_cli.specs.declared.running.Stop.{Stop}
+use Rattle.eac_cli.specs.declared.running.Stop.TheVariants.{WriteFault as StopWriteFault, NoMemory as StopNoMemory}
+use Rattle.eac_cli.specs.declared.tool.Status.{Status}
+use Rattle.eac_cli.specs.declared.tool.Status.TheVariants.{Done, Usage, ScriptFault, TooLong, ReadFault, WriteFault, NoMemory}
+use Rattle.eac_cli.specs.Script.{later_day, IsScript, IsFault}
+use Rattle.eac_cli.specs.State.{State, first_state}
+use Rattle.eac_cli.specs.Turn.{asked_on, Answer, Silent, Registered, Memory, History, AreAnswers, AreEnded, IsEnded}
+use Rattle.eac_cli.specs.Journal.{journal, line_text, events}
+
+-- the words of the command
+abbrev pub run_words : List (List ℕ)
+run_words = codes "run" ∷ []
+
+-- ---- a run of event lines
+
+-- what an event asks of the register on this day
+abbrev pub asks_of : Option ℕ → Event → List Asked
+asks_of today (Day day) = []
+asks_of None (Ask reference bytes) = []
+asks_of (Some day) (Ask reference bytes) = asked_on day reference bytes ∷ []
+
+-- what the `ask` lines ask, each on the day in force
+abbrev pub asks : Option ℕ → List Event → List Asked
+asks today [] = []
+asks today (event ∷ events) = asks_of today event ++ asks (later_day today event) events
+
+-- the cases of deliveries
+abbrev pub cases : Deliveries → List Asked
+cases deliveries = map (λ (d : Delivery Asked (List ℕ) Rule Fault). d.case_of) deliveries
+
+-- One state to which the history of these lines leads from the rows before. Its deliveries are what the `ask` lines
+-- ask, they are one story after the ledger of the rows before, and their ledger is what was added to the rows.
+pub record RunTells (before after : List Row) (first last : ℕ) (lines : List EventLine) (answers : List Answer) : Type 0 where
+  pub end : State
+  pub history : History (first_state before first) (events lines) answers end
+  pub rows : end.rows ≡ after
+  pub keeper : end.keeper ≡ last
+  pub asked : cases end.register ≡ asks None (events lines)
+  pub story : RegisterStory (entries_of before) end.register
+  pub ledger : after ≡ before ++ rows_of_ledger (entries register end.register)
+
+-- These lines were run in order, with these answers: what each answer is and the causes of faults, and where the rows
+-- are told afterwards the history.
+pub record Run (rows rows' : Option (List Row)) (first last : ℕ) (lines : List EventLine) (answers : List Answer) : Type 0 where
+  pub answered : AreAnswers first (events lines) answers last
+  pub told : Told rows rows' (λ before after. RunTells before after first last lines answers)
+
+-- ---- by status
+
+-- What went out: these journal lines, and of the line of the answer a front which is not all of it; or these lines alone.
+abbrev pub SentUntil : Option (List ℕ) → Option (List ℕ) → Stop → List ℕ → ℕ → Answer → Type 0
+SentUntil old new StopWriteFault before number answer =
+    (n : ℕ) × (n < length (line_text number answer)) × Appends old new (before ++ take n (line_text number answer))
+SentUntil old new StopNoMemory before number answer = (answer ≡ Memory) × Appends old new before
+
+-- the most bytes that are read
+abbrev pub most_input : ℕ
+most_input = 4194304
+
+-- all that the source had was read, and it is within the limit
+abbrev pub WasRead : Option (List ℕ) → List ℕ → Type 0
+WasRead left bytes = IsAtEnd left × (length bytes ≤ most_input)
+
+-- What a call did: the rows before and after, the keeper's counts, and what the sink had taken before and after.
+module _ (rows rows' : Option (List Row)) (first last : ℕ) (old new : Option (List ℕ)) where
+  -- nothing was run and nothing was written
+  abbrev pub Nothing : ℕ → Type 0
+  Nothing done = (done ≡ 0) × (rows' ≡ rows) × (last ≡ first) × (new ≡ old)
+
+  -- All lines were run, and the journal of their answers went out.
+  pub record Whole (lines : List EventLine) (done : ℕ) : Type 0 where
+    pub answers : List Answer
+    pub all : done ≡ length lines
+    pub ended : AreEnded answers
+    pub run : Run rows rows' first last lines answers
+    pub sent : Appends old new (journal lines answers)
+
+  -- The first lines were run, and their journal lines went out whole. Then the next line was run, and the run stopped.
+  pub record Stopped (stop : Stop) (lines : List EventLine) (done : ℕ) : Type 0 where
+    pub answers : List Answer
+    pub line : EventLine
+    pub answer : Answer
+    pub next : slice_get lines done ≡ Some line
+    pub count : length answers ≡ done
+    pub ended : AreEnded answers
+    pub run : Run rows rows' first last (take done lines ++ line ∷ []) (answers ++ answer ∷ [])
+    pub sent : SentUntil old new stop (journal (take done lines) answers) line.line answer
+
+  -- what stands for each status, where the source has this left and these bytes were read
+  abbrev pub Claim : Option (List ℕ) → Status → ℕ → List ℕ → Type 0
+  Claim left Done done bytes = WasRead left bytes × (lines : List EventLine) × IsScript bytes lines × Whole lines done
+  Claim left Usage done bytes = ⊥
+  Claim left (ScriptFault line rule) done bytes = WasRead left bytes × IsFault bytes line rule × Nothing done
+  Claim left TooLong done bytes = (most_input < length bytes) × Nothing done
+  Claim left ReadFault done bytes = Nothing done
+  Claim left WriteFault done bytes = WasRead left bytes × (lines : List EventLine) × IsScript bytes lines × Stopped StopWriteFault lines done
+  Claim left NoMemory done bytes = Nothing done ⊎ (WasRead left bytes × (lines : List EventLine) × IsScript bytes lines × Stopped StopNoMemory lines done)
+
+-- ---- what has to come of a source that tells its bytes
+
+-- Where no read and no write failed, a script within the limit is run to its end, but for want of memory.
+abbrev pub IsComplete : List ℕ → Type 0 → Type 0 → Status → Type 0
+IsComplete bytes read written status = (lines : List EventLine) → IsScript bytes lines → length bytes ≤ most_input → ¬ read → ¬ written → (status ≡ Done) ⊎ (status ≡ NoMemory)
+
+-- Where no read failed, a fault of the script within the limit is told, but for want of memory.
+abbrev pub TellsFault : List ℕ → Type 0 → Status → Type 0
+TellsFault bytes read status = (line rule : ℕ) → IsFault bytes line rule → length bytes ≤ most_input → ¬ read → (status ≡ ScriptFault line rule) ⊎ (status ≡ NoMemory)
+
+-- Where no read failed, more bytes than the limit are too long, but for want of memory.
+abbrev pub TellsLength : List ℕ → Type 0 → Status → Type 0
+TellsLength bytes read status = most_input < length bytes → ¬ read → (status ≡ TooLong) ⊎ (status ≡ NoMemory)
+
+-- ---- small words of the program's functions
+
+abbrev pub status_of : Option Stop → Status
+status_of None = Done
+status_of (Some StopWriteFault) = WriteFault
+status_of (Some StopNoMemory) = NoMemory
+
+-- a run of bytes ends with these statuses alone, and with `WriteFault` only where the sink's count rose
+abbrev pub IsRunStatus : Status → ℕ → ℕ → Type 0
+IsRunStatus Done before now = Unit {0}
+IsRunStatus (ScriptFault line rule) before now = Unit {0}
+IsRunStatus NoMemory before now = Unit {0}
+IsRunStatus WriteFault before now = Rose before now
+IsRunStatus Usage before now = ⊥
+IsRunStatus TooLong before now = ⊥
+IsRunStatus ReadFault before now = ⊥
+
+abbrev pub number_of_status : Status → ℕ
+number_of_status Done = 0
+number_of_status Usage = 1
+number_of_status (ScriptFault line rule) = 2
+number_of_status TooLong = 3
+number_of_status ReadFault = 4
+number_of_status WriteFault = 5
+number_of_status NoMemory = 9

@@ -1,0 +1,85 @@
+-- What one event does (this project's own): from a state, with an answer, to a state.
+use Rattle.std.specs.Prelude.{◌≡◌, ℕ, ◌≤◌, List, [], ◌∷◌, ◌++◌, Option, Some, None}
+use Rattle.cv_dates.specs.Calendar.{day_text}
+use Rattle.eac_base.specs.Causes.{Rose}
+use Rattle.eac_base.specs.Runs.{Runs}
+use Rattle.issue_core.specs.declared.rule.Rule.{Rule}
+use Rattle.issue_core.specs.Ledger.{Outcome, Issued, Kept, Refused, Faulted, NoMemory}
+use Rattle.issue_core.specs.Story.{Decides}
+use Rattle.issue_core.specs.Register.{Asked, Fault, register, unsigned, delivery_of, entries_of, rows_left}
+use Rattle.eac_cli.specs.declared.event.Event.{Event}
+use Rattle.eac_cli.specs.declared.event.Event.TheVariants.{Day, Ask}
+use Rattle.eac_cli.specs.State.{State}
+
+-- What is answered to an event: nothing to a `day`, an outcome of the register to an `ask`, and want of memory to any.
+pub data Answer : Type 0 where
+  Silent : Answer
+  Registered : (reference : List ℕ) → (outcome : Outcome (List ℕ) Rule Fault) → Answer
+  Memory : Answer
+
+-- the answer that tells an outcome of the register
+abbrev pub told_as : List ℕ → Outcome (List ℕ) Rule Fault → Answer
+told_as reference (Issued day) = Registered reference (Issued day)
+told_as reference (Kept day) = Registered reference (Kept day)
+told_as reference (Refused rule) = Registered reference (Refused rule)
+told_as reference (Faulted fault) = Registered reference (Faulted fault)
+told_as reference NoMemory = Memory
+
+-- what the register is asked on this day
+abbrev pub asked_on : ℕ → List ℕ → List ℕ → Asked
+asked_on day reference bytes = record { reference = reference; bytes = bytes; day = day_text day }
+
+-- The register was asked on the day in force: one delivery, with the rows as the ledger before it. The row that it left
+-- was added.
+pub record AskTurn (s : State) (reference bytes : List ℕ) (answer : Answer) (s' : State) : Type 0 where
+  pub day : ℕ
+  pub outcome : Outcome (List ℕ) Rule Fault
+  pub left : Option (List ℕ)
+  pub faults : ℕ
+  pub today : s.day ≡ Some day
+  pub later : s.keeper ≤ faults
+  pub decides : Decides register unsigned (entries_of s.rows) (delivery_of (asked_on day reference bytes) (s.keeper, faults) outcome left)
+  pub told : answer ≡ told_as reference outcome
+  pub next : s' ≡ record s {
+    rows = s.rows ++ rows_left (asked_on day reference bytes) left;
+    keeper = faults;
+    register = s.register ++ delivery_of (asked_on day reference bytes) (s.keeper, faults) outcome left ∷ [];
+  }
+
+abbrev pub Turn : State → Event → Answer → State → Type 0
+Turn s (Day day) answer s' = (answer ≡ Silent) × (s' ≡ record s { day = Some day })
+Turn s (Ask reference bytes) answer s' = AskTurn s reference bytes answer s'
+
+-- the events lead with these answers from one state to another
+abbrev pub History : State → List Event → List Answer → State → Type 0
+History = Runs Turn
+
+-- ---- what is known of an answer also where no rows are told
+
+-- a fault of the keeper came only where its count rose
+abbrev pub IsCaused : ℕ → ℕ → Outcome (List ℕ) Rule Fault → Type 0
+IsCaused before now (Issued day) = Unit {0}
+IsCaused before now (Kept day) = Unit {0}
+IsCaused before now (Refused rule) = Unit {0}
+IsCaused before now (Faulted fault) = Rose before now
+IsCaused before now NoMemory = Unit {0}
+
+-- The answer is one to this event, and a fault in it has its cause between the keeper's counts before and after.
+abbrev pub AnswersTo : ℕ → Event → Answer → ℕ → Type 0
+AnswersTo before (Day day) answer now = (answer ≡ Silent) × (now ≡ before)
+AnswersTo before (Ask reference bytes) answer now =
+    (before ≤ now) × (outcome : Outcome (List ℕ) Rule Fault) × (answer ≡ told_as reference outcome) × IsCaused before now outcome
+
+-- the answers to the events in their order, each with its cause between the counts that it stands at
+abbrev pub AreAnswers : ℕ → List Event → List Answer → ℕ → Type 0
+AreAnswers = Runs AnswersTo
+
+-- an answer that is not want of memory
+abbrev pub IsEnded : Answer → Type 0
+IsEnded Silent = Unit {0}
+IsEnded (Registered reference outcome) = Unit {0}
+IsEnded Memory = ⊥
+
+abbrev pub AreEnded : List Answer → Type 0
+AreEnded [] = Unit {0}
+AreEnded (answer ∷ answers) = IsEnded answer × AreEnded answers

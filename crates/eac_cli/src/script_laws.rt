@@ -1,0 +1,27 @@
+// What holds of every script and of every fault.
+ghost use Rattle.eac_cli.specs.ScriptLaws.{ScriptsAreFine, FaultIsOne, EventsAreOne, ScriptsAreInOrder, ScriptsAreShort};
+
+/// Bytes that are a script have no fault.
+pub fn scripts_have_no_fault()
+    ensures { ScriptsAreFine }
+{}
+
+/// Bytes have one fault at most.
+pub fn a_fault_is_one()
+    ensures { FaultIsOne }
+{}
+
+/// Bytes are a script of one list of events at most.
+pub fn events_are_one()
+    ensures { EventsAreOne }
+{}
+
+/// In every script a day stands before the first other event, and no day is before the day in force.
+pub fn scripts_are_in_order()
+    ensures { ScriptsAreInOrder }
+{}
+
+/// Every script has 20,000 events at most.
+pub fn scripts_are_short()
+    ensures { ScriptsAreShort }
+{}

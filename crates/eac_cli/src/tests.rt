@@ -1,0 +1,289 @@
+// What no clause says: that the calls find memory, and the texts and numbers of worked examples.
+ghost use Rattle.std.specs.Prelude.{◌≡◌, ◌≤◌, ◌<◌, ℕ, length, IfOk};
+ghost use Rattle.std.specs.Io.{WritesAtMost};
+ghost use Rattle.std.specs.Io.KnownBytes.{WriteAppends};
+
+use crate::tool::{Report, Status, run_tool};
+use eac_base::{FailPlan, Failed, MemorySink, MemorySource, NoMemory, Octets, Sink, Source, Words};
+use keeper::{KeeperPlan, MemoryKeeper, Moment};
+use std::alloc::Global;
+use std::test::Fail;
+
+// Room for every journal of these tests.
+const ROOM: u64 = 4096;
+
+const FIRST: &[u8] = b"day 240101\nask DEDVBUND00001 0102\n";
+
+const REPEATED: &[u8] =
+    b"day 240101\nask DEDVBUND00001 0102\nday 240102\nask DEDVBUND00001 0102\nask DEDVBUND00001 0103\n";
+
+const REPEATED_JOURNAL: &[u8] =
+    b"2: issued DEDVBUND00001 240101\n4: kept DEDVBUND00001 240101\n5: refused 2\n";
+
+/// A sink that takes one byte of each piece.
+#[derive(Drop)]
+struct Dripping {
+    sink: MemorySink,
+}
+
+impl Sink for Dripping {
+    ghost taken = { λ s. Some s.sink.taken };
+
+    ghost faults = { λ s. s.sink.faults };
+
+    fn write(&mut self, from: &[u8]) -> Result<usize, Failed> {
+        match from {
+            [first, ..] => self.sink.write(&[*first]),
+            [] => Ok(0),
+        }
+    }
+}
+
+fn words_of(alloc: Global, list: &[&[u8]]) -> Result<Words, NoMemory> {
+    let mut words = Words::new(alloc);
+    for word in list {
+        words.push(word)?;
+    }
+    Ok(words)
+}
+
+fn plan_of(alloc: Global, calls: &[u64]) -> Result<FailPlan, NoMemory> {
+    let mut plan = FailPlan::new(alloc);
+    for call in calls {
+        plan.push(*call)?;
+    }
+    Ok(plan)
+}
+
+// Runs a script in memory: at most `most` bytes a read and none over the place `cut`, and the calls that fail.
+fn run_with<K: Sink>(
+    alloc: Global,
+    script: &[u8],
+    most: u64,
+    cut: u64,
+    reads: &[u64],
+    keeps: KeeperPlan,
+    sink: &mut K,
+) -> Result<Report, NoMemory>
+    requires { 1 ≤ most }
+{
+    let words = words_of(alloc, &[b"run".as_slice()])?;
+    let script = Octets::from_slice(alloc, script)?;
+    let mut source = MemorySource::new(script, most, cut, plan_of(alloc, reads)?);
+    let mut keeper = MemoryKeeper::new(alloc, keeps);
+    Ok(run_tool(alloc, &words, &mut source, sink, &mut keeper))
+}
+
+// Runs a script of which no call fails. Gives the report and the journal.
+fn run(alloc: Global, script: &[u8]) -> Result<(Report, Octets), NoMemory> {
+    let mut sink = MemorySink::new(alloc, ROOM, FailPlan::new(alloc))?;
+    let keeps = KeeperPlan::new(alloc);
+    let report = run_with(alloc, script, 4096, 0, &[], keeps, &mut sink)?;
+    Ok((report, Octets::from_slice(alloc, sink.bytes())?))
+}
+
+#[test]
+fn scripts_have_these_journals(rt: HostRuntime) -> Result<(), Fail> {
+    let alloc = rt.alloc();
+    let table: [(&[u8], u64, &[u8]); 5] = [
+        (FIRST, 2, b"2: issued DEDVBUND00001 240101\n"),
+        (REPEATED, 5, REPEATED_JOURNAL),
+        (b"", 0, b""),
+        (
+            b"# comments and empty lines are counted\r\n\nday 240229\r\nask FRDVXYZ99999 aBCd",
+            2,
+            b"4: issued FRDVXYZ99999 240229\n",
+        ),
+        (b"day 240101\nday 240101\n", 2, b""),
+    ];
+    for (script, done, journal) in table {
+        let (report, written) = run(alloc, script)?;
+        assert_eq!(rt; report.status, Status::Done);
+        assert_eq!(rt; report.done, done);
+        assert_eq!(rt; report.acks.len(), 0);
+        assert_eq!(rt; written.as_slice(), journal);
+    }
+    Ok(())
+}
+
+#[test]
+fn the_first_fault_is_told_with_its_least_rule(rt: HostRuntime) -> Result<(), Fail> {
+    let alloc = rt.alloc();
+    let table: [(&[u8], u64, u8); 14] = [
+        (b"day 240101\nask DEDVBUND0000a 01\n", 2, 1),
+        (b"day 230229\n", 1, 1),
+        (b"day 24010\n", 1, 1),
+        (b"day  240101\n", 1, 1),
+        (b"day 240101 \n", 1, 1),
+        (b"day 240101\nask DEDVBUND00001\n", 2, 1),
+        (b"day 240101\nask DEDVBUND00001 012\n", 2, 1),
+        (b"day 240101\nask DEDVBUND00001 0g\n", 2, 1),
+        (b"day 240101\r\r\n", 1, 1),
+        (b"day 240101\r", 1, 1),
+        (b"# none\n\nfound DECVCA\n", 3, 1),
+        (b"\nask DEDVBUND00001 01\nday 240101\n", 2, 4),
+        (b"day 240102\nask DEDVBUND00001 01\nday 240101\n", 3, 5),
+        (b"day 240102\nday 240101\nday 24010\n", 2, 5),
+    ];
+    for (script, line, rule) in table {
+        let (report, written) = run(alloc, script)?;
+        assert_eq!(rt; report.status, Status::ScriptFault { line, rule });
+        assert_eq!(rt; report.done, 0);
+        assert!(rt; written.as_slice().is_empty());
+    }
+    Ok(())
+}
+
+// A script of this head, so many times the piece, and this tail.
+fn repeated(
+    alloc: Global,
+    head: &[u8],
+    piece: &[u8],
+    times: u64,
+    tail: &[u8],
+) -> Result<Octets, NoMemory> {
+    let mut script = Octets::from_slice(alloc, head)?;
+    for _ in 0..times {
+        script.push_all(piece)?;
+    }
+    script.push_all(tail)?;
+    Ok(script)
+}
+
+#[test]
+fn limits_are_told_past_them_alone(rt: HostRuntime) -> Result<(), Fail> {
+    let alloc = rt.alloc();
+    let longest = repeated(alloc, b"day 240101\nask DEDVBUND00001 ", b"01", 4096, b"\n")?;
+    let (report, _) = run(alloc, longest.as_slice())?;
+    assert_eq!(rt; report.status, Status::Done);
+    let longer = repeated(alloc, b"day 240101\nask DEDVBUND00001 ", b"01", 4097, b"\n")?;
+    let (report, _) = run(alloc, longer.as_slice())?;
+    assert_eq!(rt; report.status, Status::ScriptFault { line: 2, rule: 2 });
+    let most = repeated(alloc, b"", b"day 240101\n", 20_000, b"")?;
+    let (report, _) = run(alloc, most.as_slice())?;
+    assert_eq!(rt; report.status, Status::Done);
+    assert_eq!(rt; report.done, 20_000);
+    let more = repeated(alloc, b"", b"day 240101\n", 20_001, b"")?;
+    let (report, _) = run(alloc, more.as_slice())?;
+    assert_eq!(rt;
+        report.status,
+        Status::ScriptFault {
+            line: 20_001,
+            rule: 7
+        }
+    );
+    let comments = repeated(alloc, b"", b"# 4,194,304\n", 349_525, b"#345")?;
+    let (report, _) = run(alloc, comments.as_slice())?;
+    assert_eq!(rt; report.status, Status::Done);
+    let long = repeated(alloc, b"", b"# 4,194,305\n", 349_525, b"#3456")?;
+    let (report, _) = run(alloc, long.as_slice())?;
+    assert_eq!(rt; report.status, Status::TooLong);
+    Ok(())
+}
+
+#[test]
+fn other_words_are_usage(rt: HostRuntime) -> Result<(), Fail> {
+    let alloc = rt.alloc();
+    let table: [&[&[u8]]; 4] = [
+        &[],
+        &[b"ran".as_slice()],
+        &[b"run".as_slice(), b"".as_slice()],
+        &[b"run".as_slice(), b"a".as_slice(), b"b".as_slice()],
+    ];
+    for list in table {
+        let words = words_of(alloc, list)?;
+        let script = Octets::from_slice(alloc, FIRST)?;
+        let mut source = MemorySource::new(script, 4096, 0, FailPlan::new(alloc));
+        let mut sink = MemorySink::new(alloc, ROOM, FailPlan::new(alloc))?;
+        let mut keeper = MemoryKeeper::new(alloc, KeeperPlan::new(alloc));
+        let report = run_tool(alloc, &words, &mut source, &mut sink, &mut keeper);
+        assert_eq!(rt; report.status, Status::Usage);
+        assert!(rt; sink.bytes().is_empty());
+    }
+    Ok(())
+}
+
+#[test]
+fn pieces_of_any_size_give_the_same_journal(rt: HostRuntime) -> Result<(), Fail> {
+    let alloc = rt.alloc();
+    for cut in 0..=REPEATED.len() as u64 {
+        let mut sink = MemorySink::new(alloc, ROOM, FailPlan::new(alloc))?;
+        let most = if cut == 0 { 1 } else { 4096 };
+        let keeps = KeeperPlan::new(alloc);
+        let report = run_with(alloc, REPEATED, most, cut, &[], keeps, &mut sink)?;
+        assert_eq!(rt; report.status, Status::Done);
+        assert_eq!(rt; sink.bytes(), REPEATED_JOURNAL);
+    }
+    let sink = MemorySink::new(alloc, ROOM, FailPlan::new(alloc))?;
+    let mut dripping = Dripping { sink };
+    let keeps = KeeperPlan::new(alloc);
+    let report = run_with(alloc, REPEATED, 4096, 0, &[], keeps, &mut dripping)?;
+    assert_eq!(rt; report.status, Status::Done);
+    assert_eq!(rt; dripping.sink.bytes(), REPEATED_JOURNAL);
+    Ok(())
+}
+
+// The repeated script takes two reads, five keeper calls (a look, a count and an adding, then two looks) and three
+// writes.
+#[test]
+fn each_outside_call_fails_in_turn(rt: HostRuntime) -> Result<(), Fail> {
+    let alloc = rt.alloc();
+    for n in 1..=2 {
+        let mut sink = MemorySink::new(alloc, ROOM, FailPlan::new(alloc))?;
+        let keeps = KeeperPlan::new(alloc);
+        let report = run_with(alloc, REPEATED, 4096, 0, &[n], keeps, &mut sink)?;
+        assert_eq!(rt; report.status, Status::ReadFault);
+        assert_eq!(rt; report.done, 0);
+        assert!(rt; sink.bytes().is_empty());
+    }
+    for (n, done, length) in [(1, 1, 0), (2, 3, 31), (3, 4, 60)] {
+        let mut sink = MemorySink::new(alloc, ROOM, plan_of(alloc, &[n])?)?;
+        let keeps = KeeperPlan::new(alloc);
+        let report = run_with(alloc, REPEATED, 4096, 0, &[], keeps, &mut sink)?;
+        assert_eq!(rt; report.status, Status::WriteFault);
+        assert_eq!(rt; report.done, done);
+        assert_eq!(rt; sink.bytes().len(), length);
+    }
+    let keeper_table: [(u64, Moment, &[u8]); 6] = [
+        (
+            1,
+            Moment::Before,
+            b"2: fault keeper\n4: issued DEDVBUND00001 240102\n5: refused 2\n",
+        ),
+        (
+            2,
+            Moment::Before,
+            b"2: fault keeper\n4: issued DEDVBUND00001 240102\n5: refused 2\n",
+        ),
+        (
+            3,
+            Moment::Before,
+            b"2: fault keeper\n4: issued DEDVBUND00001 240102\n5: refused 2\n",
+        ),
+        (
+            3,
+            Moment::After,
+            b"2: fault keeper\n4: kept DEDVBUND00001 240101\n5: refused 2\n",
+        ),
+        (
+            4,
+            Moment::After,
+            b"2: issued DEDVBUND00001 240101\n4: fault keeper\n5: refused 2\n",
+        ),
+        (
+            5,
+            Moment::Before,
+            b"2: issued DEDVBUND00001 240101\n4: kept DEDVBUND00001 240101\n5: fault keeper\n",
+        ),
+    ];
+    for (n, moment, journal) in keeper_table {
+        let mut sink = MemorySink::new(alloc, ROOM, FailPlan::new(alloc))?;
+        let mut keeps = KeeperPlan::new(alloc);
+        keeps.push((n, moment))?;
+        let report = run_with(alloc, REPEATED, 4096, 0, &[], keeps, &mut sink)?;
+        assert_eq!(rt; report.status, Status::Done);
+        assert_eq!(rt; report.done, 5);
+        assert_eq!(rt; sink.bytes(), journal);
+    }
+    Ok(())
+}

@@ -1,0 +1,185 @@
+// The top call.
+ghost use Rattle.std.specs.Prelude.{◌≡◌, ◌≢◌, ◌↔◌, ◌⊎◌, IsTrue, ℕ, ◌<◌, ◌≤◌, List, [], ◌∷◌, length, None, Some, Err, IfSome, IfErr, OnOk};
+ghost use Rattle.std.specs.declared.option.Option.{Option};
+ghost use Rattle.std.specs.Io.KnownBytes.{Consumes, IsAtEnd};
+ghost use Rattle.eac_base.specs.Causes.{Rose};
+ghost use Rattle.eac_cli.specs.Top.{run_words, Claim, IsComplete, TellsFault, TellsLength, IsRunStatus, status_of, number_of_status};
+
+use crate::running::{Stop, run_lines};
+use crate::script::{ScriptRefusal, read_script};
+use eac_base::{Acks, ReadRefusal, Sink, Source, Words, is_same, read_all};
+use keeper::Keeper;
+use std::alloc::Global;
+
+/// How a call ended.
+#[derive(Clone, Copy, Debug, PartialEq, Eq)]
+pub enum Status {
+    /// The command ended, and the source was read to its end.
+    Done,
+    /// The words are none of a command. Nothing was read, run or written.
+    Usage,
+    /// This line is the first that breaks a rule of scripts, and this is the least rule that it breaks. Nothing was run.
+    ScriptFault { line: u64, rule: u8 },
+    /// The source gave more than 4,194,304 bytes. Nothing was run or written.
+    TooLong,
+    /// A read failed. Nothing was run or written.
+    ReadFault,
+    /// A write failed. A front of the text went out, and the event whose line broke off took place.
+    WriteFault,
+    /// Memory is wanting. The events that are `done` stand, each with its whole line.
+    NoMemory,
+}
+
+impl Status {
+    /// The number that the program ends with.
+    pub fn number(&self) -> u8
+        ensures { result ≡ number_of_status self.now }
+    {
+        match self {
+            Status::Done => 0,
+            Status::Usage => 1,
+            Status::ScriptFault { .. } => 2,
+            Status::TooLong => 3,
+            Status::ReadFault => 4,
+            Status::WriteFault => 5,
+            Status::NoMemory => 9,
+        }
+    }
+}
+
+/// What a call did: how it ended, how many event lines were run with their whole journal line, and the imports that
+/// chips acknowledged.
+#[derive(Debug, Drop)]
+pub struct Report {
+    pub status: Status,
+    pub done: u64,
+    pub acks: Acks,
+}
+
+// The most bytes that a source may give.
+const MOST_INPUT: u64 = 4_194_304;
+
+fn is_run(words: &Words) -> bool
+    ensures { IsTrue result ↔ (words.now ≡ run_words) }
+{
+    if words.len() != 1 {
+        return false;
+    }
+    match words.get(0) {
+        Some(word) => is_same(word, b"run"),
+        None => false,
+    }
+}
+
+fn reported(alloc: Global, status: Status, done: u64) -> Report
+    ensures { (result.status ≡ status) × (result.done ≡ done) × (result.acks ≡ []) }
+{
+    Report {
+        status,
+        done,
+        acks: Acks::new(alloc),
+    }
+}
+
+// The status of a run that ended so.
+fn status_of(stop: Option<Stop>) -> Status
+    ensures { result ≡ status_of stop }
+{
+    match stop {
+        None => Status::Done,
+        Some(Stop::WriteFault) => Status::WriteFault,
+        Some(Stop::NoMemory) => Status::NoMemory,
+    }
+}
+
+// Runs the script of these bytes.
+fn run_bytes<K: Sink, B: Keeper>(
+    alloc: Global,
+    bytes: &[u8],
+    sink: &mut K,
+    keeper: &mut B,
+) -> (Status, u64)
+    requires { length bytes.now ≤ 4194304 }
+    ensures claim { (left : Option (List ℕ)) → IsAtEnd left → Claim (B.rows keeper.old) (B.rows keeper.new) (B.faults keeper.old) (B.faults keeper.new) (K.taken sink.old) (K.taken sink.new) left result.0 result.1 bytes.now }
+    ensures cause { IsRunStatus result.0 (K.faults sink.old) (K.faults sink.new) }
+{
+    let script = match read_script(alloc, bytes) {
+        Ok(script) => script,
+        Err(ScriptRefusal::Fault { line, rule }) => {
+            return (Status::ScriptFault { line, rule }, 0);
+        }
+        Err(ScriptRefusal::NoMemory) => return (Status::NoMemory, 0),
+    };
+    let (done, stop) = run_lines(alloc, script.events.as_slice(), sink, keeper);
+    (status_of(stop), done)
+}
+
+// Reads the source, and runs the script that it has.
+fn read_and_run<S: Source, K: Sink, B: Keeper>(
+    alloc: Global,
+    source: &mut S,
+    sink: &mut K,
+    keeper: &mut B,
+) -> (Status, u64)
+    ensures claim { (bytes : List ℕ) × Consumes (S.left source.old) (S.left source.new) bytes × Claim (B.rows keeper.old) (B.rows keeper.new) (B.faults keeper.old) (B.faults keeper.new) (K.taken sink.old) (K.taken sink.new) (S.left source.new) result.0 result.1 bytes }
+    ensures read { result.0 ≡ Status.ReadFault → Rose (S.faults source.old) (S.faults source.new) }
+    ensures write { result.0 ≡ Status.WriteFault → Rose (K.faults sink.old) (K.faults sink.new) }
+    ensures not_usage { result.0 ≢ Status.Usage }
+{
+    match read_all(alloc, source, MOST_INPUT) {
+        Ok(bytes) => run_bytes(alloc, bytes.as_slice(), sink, keeper),
+        Err(ReadRefusal::ReadFault) => (Status::ReadFault, 0),
+        Err(ReadRefusal::TooLong) => (Status::TooLong, 0),
+        Err(ReadRefusal::NoMemory) => (Status::NoMemory, 0),
+    }
+}
+
+// The same, and what it owes to a source that tells its bytes.
+fn run_source<S: Source, K: Sink, B: Keeper>(
+    alloc: Global,
+    source: &mut S,
+    sink: &mut K,
+    keeper: &mut B,
+) -> (Status, u64)
+    ensures claim { (bytes : List ℕ) × Consumes (S.left source.old) (S.left source.new) bytes × Claim (B.rows keeper.old) (B.rows keeper.new) (B.faults keeper.old) (B.faults keeper.new) (K.taken sink.old) (K.taken sink.new) (S.left source.new) result.0 result.1 bytes }
+    ensures complete { IfSome (S.left source.old) (λ bytes. IsComplete bytes (Rose (S.faults source.old) (S.faults source.new)) (Rose (K.faults sink.old) (K.faults sink.new)) result.0) }
+    ensures faulty { IfSome (S.left source.old) (λ bytes. TellsFault bytes (Rose (S.faults source.old) (S.faults source.new)) result.0) }
+    ensures too_long { IfSome (S.left source.old) (λ bytes. TellsLength bytes (Rose (S.faults source.old) (S.faults source.new)) result.0) }
+    ensures read { result.0 ≡ Status.ReadFault → Rose (S.faults source.old) (S.faults source.new) }
+    ensures write { result.0 ≡ Status.WriteFault → Rose (K.faults sink.old) (K.faults sink.new) }
+    ensures not_usage { result.0 ≢ Status.Usage }
+{
+    read_and_run(alloc, source, sink, keeper)
+}
+
+/// Does what the words ask: `run` reads a script from the source, runs it over the keeper's rows, and writes the
+/// journal to the sink, each event's line before the next event.
+///
+/// [`Status`] says when each status comes. A fault of the keeper is a journal line, and the run goes on.
+pub fn run_tool<S: Source, K: Sink, B: Keeper>(
+    alloc: Global,
+    words: &Words,
+    source: &mut S,
+    sink: &mut K,
+    keeper: &mut B,
+) -> Report
+    // `Usage` exactly where the words are none of a command; then nothing was asked of the outside.
+    ensures usage { result.status ≡ Status.Usage → words.now ≢ run_words }
+    ensures other_words { words.now ≢ run_words → (result.status ≡ Status.Usage) × (result.done ≡ 0) × (source.new ≡ source.old) × (sink.new ≡ sink.old) × (keeper.new ≡ keeper.old) }
+    // The bytes that were read, what the sink took, and the rows, by the status.
+    ensures run { words.now ≡ run_words → (bytes : List ℕ) × Consumes (S.left source.old) (S.left source.new) bytes × Claim (B.rows keeper.old) (B.rows keeper.new) (B.faults keeper.old) (B.faults keeper.new) (K.taken sink.old) (K.taken sink.new) (S.left source.new) result.status result.done bytes }
+    // Where the source tells its bytes, a script is run, a fault is told, and too much is too long.
+    ensures complete { words.now ≡ run_words → IfSome (S.left source.old) (λ bytes. IsComplete bytes (Rose (S.faults source.old) (S.faults source.new)) (Rose (K.faults sink.old) (K.faults sink.new)) result.status) }
+    ensures faulty { words.now ≡ run_words → IfSome (S.left source.old) (λ bytes. TellsFault bytes (Rose (S.faults source.old) (S.faults source.new)) result.status) }
+    ensures too_long { words.now ≡ run_words → IfSome (S.left source.old) (λ bytes. TellsLength bytes (Rose (S.faults source.old) (S.faults source.new)) result.status) }
+    // A failure of the outside is told only where that object counted one.
+    ensures read { result.status ≡ Status.ReadFault → Rose (S.faults source.old) (S.faults source.new) }
+    ensures write { result.status ≡ Status.WriteFault → Rose (K.faults sink.old) (K.faults sink.new) }
+    ensures acks { result.acks ≡ [] }
+{
+    if !is_run(words) {
+        return reported(alloc, Status::Usage, 0);
+    }
+    let (status, done) = run_source(alloc, source, sink, keeper);
+    reported(alloc, status, done)
+}
