@@ -1,0 +1,11 @@
+use Rattle.std.proofs.Common.{◌≡◌, length}
+use Rattle.std.specs.List.{list_all}
+use Rattle.eac_base.specs.Text.{is_word}
+use Rattle.eac_cli.specs.Lines.{pieces}
+use Rattle.eac_cli.proofs.words.are_words.Given as goal
+
+abbrev pub invariant-words : goal.invariant-words
+invariant-words l = list_all is_word (pieces l.line) ≡ list_all is_word (pieces l.rest)
+
+abbrev pub decreases-words : goal.decreases-words
+decreases-words l = length l.rest

@@ -1,0 +1,105 @@
+// One line of a script by itself.
+ghost use Rattle.std.specs.Prelude.{◌≡◌, ℕ, List, [], ◌∷◌, ◌==◌, ◌&&◌, length};
+ghost use Rattle.std.specs.List.{list_all};
+ghost use Rattle.std.specs.Option.{option_copied};
+ghost use Rattle.eac_base.specs.Answers.{Answers, some_or};
+ghost use Rattle.eac_base.specs.Text.{is_digit};
+ghost use Rattle.eac_cli.specs.Lines.{pieces_left};
+ghost use Rattle.eac_cli.specs.LineGrammar.{rule_of, is_date, day_of, ask_of, ask_with, day_said, ask_said, event_of};
+
+use crate::event::Event;
+use crate::hex::read_hex;
+use crate::line_rule::{LineRefusal, LineRule};
+use crate::words::{are_words, cut, one_word, two_words};
+use eac_base::{Octets, is_same};
+use holder_reference::{Reference, read_reference};
+use std::alloc::Global;
+
+/// The most bytes that HEX may say.
+const MOST_BYTES: usize = 4096;
+
+/// Whether each byte is a digit.
+fn are_digits(bytes: &[u8]) -> bool
+    ensures { result ≡ list_all is_digit bytes.now }
+{
+    bytes.iter().all(|b| b'0' <= *b && *b <= b'9')
+}
+
+/// Six digits.
+fn is_date(date: &[u8]) -> bool
+    ensures { result ≡ is_date date.now }
+{
+    date.len() == 6 && are_digits(date)
+}
+
+/// Reads DATE.
+fn day_of(date: &[u8]) -> Result<Event, LineRefusal>
+    ensures { Answers (λ event. event) rule_of result (day_of date.now) }
+{
+    if !is_date(date) {
+        return Err(LineRefusal::Rule(LineRule::Grammar));
+    }
+    let mut day = [0u8; 6];
+    day.copy_from_slice(date);
+    Ok(Event::Day { day })
+}
+
+/// The event of a reference with these bytes.
+fn ask_with(reference: Reference, bytes: Octets) -> Result<Event, LineRefusal>
+    ensures { Answers (λ event. event) rule_of result (ask_with reference bytes) }
+{
+    if MOST_BYTES < bytes.len() {
+        return Err(LineRefusal::Rule(LineRule::Limit));
+    }
+    Ok(Event::Ask { reference, bytes })
+}
+
+/// Reads REFERENCE and HEX.
+fn ask_of(alloc: Global, reference: &[u8], hex: &[u8]) -> Result<Event, LineRefusal>
+    ensures { Answers (λ event. event) rule_of result (ask_of reference.now hex.now) }
+{
+    let Ok(reference) = read_reference(reference) else {
+        return Err(LineRefusal::Rule(LineRule::Grammar));
+    };
+    match read_hex(alloc, hex) {
+        Ok(bytes) => ask_with(reference, bytes),
+        Err(refusal) => Err(refusal),
+    }
+}
+
+/// Reads what stands behind the word `day`.
+fn read_day(rest: Option<&[u8]>) -> Result<Event, LineRefusal>
+    ensures { Answers (λ event. event) rule_of result (day_said (pieces_left (option_copied rest.entry))) }
+{
+    match one_word(rest) {
+        Some(date) => day_of(date),
+        None => Err(LineRefusal::Rule(LineRule::Grammar)),
+    }
+}
+
+/// Reads what stands behind the word `ask`.
+fn read_ask(alloc: Global, rest: Option<&[u8]>) -> Result<Event, LineRefusal>
+    ensures { Answers (λ event. event) rule_of result (ask_said (pieces_left (option_copied rest.entry))) }
+{
+    match two_words(rest) {
+        Some((reference, hex)) => ask_of(alloc, reference, hex),
+        None => Err(LineRefusal::Rule(LineRule::Grammar)),
+    }
+}
+
+/// Reads one event line. It is refused by rule 1 where it isn't in the grammar, and by rule 2 where HEX says too much.
+pub fn read_event(alloc: Global, line: &[u8]) -> Result<Event, LineRefusal>
+    ensures { Answers (λ event. event) rule_of result (event_of line.now) }
+{
+    if !are_words(line) {
+        return Err(LineRefusal::Rule(LineRule::Grammar));
+    }
+    let (kind, rest) = cut(line);
+    if is_same(kind, b"day") {
+        return read_day(rest);
+    }
+    if is_same(kind, b"ask") {
+        return read_ask(alloc, rest);
+    }
+    Err(LineRefusal::Rule(LineRule::Grammar))
+}

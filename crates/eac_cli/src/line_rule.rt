@@ -1,0 +1,39 @@
+// Why a line of a script is refused.
+ghost use Rattle.std.specs.Prelude.{◌≡◌};
+ghost use Rattle.eac_cli.specs.LineGrammar.{rule_number};
+
+/// The rule that a line of a script breaks. A line is tested by them in this order, and named by the first one.
+#[derive(Clone, Copy, Debug, PartialEq, Eq)]
+pub enum LineRule {
+    /// The line isn't in the grammar.
+    Grammar,
+    /// HEX says more than 4,096 bytes.
+    Limit,
+    /// An event other than `day` comes before the first `day`.
+    TooEarly,
+    /// The day is before the day in force.
+    DayFalls,
+}
+
+impl LineRule {
+    /// The number by which a script's fault names the rule.
+    pub fn number(self) -> u8
+        ensures { result ≡ rule_number self }
+    {
+        match self {
+            LineRule::Grammar => 1,
+            LineRule::Limit => 2,
+            LineRule::TooEarly => 4,
+            LineRule::DayFalls => 5,
+        }
+    }
+}
+
+/// Why a line wasn't read.
+#[derive(Clone, Copy, Debug, PartialEq, Eq)]
+pub enum LineRefusal {
+    /// The line breaks a rule.
+    Rule(LineRule),
+    /// Memory is wanting.
+    NoMemory,
+}
