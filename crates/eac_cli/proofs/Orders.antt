@@ -1,10 +1,10 @@
 -- What every script and every fault keeps.
-use Rattle.std.proofs.Common.{◌≡◌, ℕ, List, [], ◌∷◌, ◌++◌, Some, None, Ok, Err, sym, ap, ◌∙◌, subst, append-nil, append_assoc}
+use Rattle.std.proofs.Common.{◌≡◌, ℕ, List, [], ◌∷◌, ◌++◌, length, Some, None, Ok, Err, sym, ap, ◌∙◌, subst, append-nil, append_assoc}
 use Rattle.std.specs.declared.option.Option.{Option}
 use Rattle.std.specs.declared.result.Result.{Result}
 use Rattle.std.specs.Option.{option_map}
 use Rattle.eac_cli.specs.LineGrammar.{rule_number}
-use Rattle.eac_cli.specs.Script.{Line, lines_read, events_of, day_after, order_rule, broken, Unbroken, IsScript, IsFault, HasDay, InOrder}
+use Rattle.eac_cli.specs.Script.{Line, lines_read, events_of, day_after, rule_behind, broken, Unbroken, IsScript, IsFault, HasDay, InOrder}
 use Rattle.eac_cli.specs.declared.event.Event.{Event}
 use Rattle.eac_cli.specs.declared.event.Event.TheVariants.{Day, Ask}
 use Rattle.eac_cli.specs.declared.event.EventLine.{EventLine}
@@ -14,15 +14,15 @@ use Rattle.eac_cli.proofs.Reading.{day_more}
 
 -- ---- a day stands before every other event
 
-has_day : (today : Option (List ℕ)) (event : Event) → order_rule today event ≡ None → HasDay today event
-has_day today (Day day) fine = tt
-has_day (Some day) (Ask reference bytes) fine = tt
-has_day None (Ask reference bytes) fine = cc
+has_day : (today : Option ℕ) (events : ℕ) (event : Event) → rule_behind today events event ≡ None → HasDay today event
+has_day today events (Day day) fine = tt
+has_day (Some day) events (Ask reference bytes) fine = tt
+has_day None events (Ask reference bytes) fine = cc
 
 order_after : (earlier lines : List Line) → Unbroken earlier lines → InOrder (day_after None earlier) (events_of lines)
 order_after earlier [] fine = tt
 order_after earlier ((n, Ok event) ∷ lines) fine =
-    (has_day (day_after None earlier) event fine.0, subst (λ d. InOrder d (events_of lines)) (day_more None earlier n event) (order_after (earlier ++ (n, Ok event) ∷ []) lines fine.1))
+    (has_day (day_after None earlier) (length (events_of earlier)) event fine.0, subst (λ d. InOrder d (events_of lines)) (day_more None earlier n event) (order_after (earlier ++ (n, Ok event) ∷ []) lines fine.1))
 order_after earlier ((n, Err rule) ∷ lines) fine = absurd (never fine.0)
   where
     never : Some rule ≡ None → ⊥

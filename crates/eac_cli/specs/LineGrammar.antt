@@ -1,14 +1,15 @@
 -- The event that a line of a script says, or the rule that the line breaks by itself (this project's own).
-use Rattle.std.specs.Prelude.{ℕ, List, [], ◌∷◌, length, codes, Bool, ◌&&◌, ◌==◌, nat_le, Option, Some, None, Result, Ok, Err, if◌then◌else◌}
-use Rattle.std.specs.List.{list_all}
+use Rattle.std.specs.Prelude.{ℕ, List, [], ◌∷◌, length, codes, nat_le, Option, Some, None, Result, Ok, Err, if◌then◌else◌}
+use Rattle.std.specs.Result.{result_map_both}
 use Rattle.std.specs.Str.{bytes_eq}
 use Rattle.eac_base.specs.Answers.{◌>>=◌, ◌>>◌, unless, some_or}
-use Rattle.eac_base.specs.Text.{words, is_digit, hex_bytes}
+use Rattle.eac_base.specs.Text.{words, hex_bytes}
+use Rattle.cv_dates.specs.Calendar.{day_from_text}
 use Rattle.holder_reference.specs.Reference.{is_reference}
 use Rattle.eac_cli.specs.declared.event.Event.{Event}
 use Rattle.eac_cli.specs.declared.event.Event.TheVariants.{Day, Ask}
 use Rattle.eac_cli.specs.declared.line_rule.LineRule.{LineRule}
-use Rattle.eac_cli.specs.declared.line_rule.LineRule.TheVariants.{Grammar, Limit, TooEarly, DayFalls}
+use Rattle.eac_cli.specs.declared.line_rule.LineRule.TheVariants.{Grammar, Limit, TooEarly, DayFalls, TooMany}
 use Rattle.eac_cli.specs.declared.line_rule.LineRefusal.{LineRefusal}
 use Rattle.eac_cli.specs.declared.line_rule.LineRefusal.TheVariants.{Rule, NoMemory}
 
@@ -19,6 +20,7 @@ rule_number Grammar = 1
 rule_number Limit = 2
 rule_number TooEarly = 4
 rule_number DayFalls = 5
+rule_number TooMany = 7
 
 -- The rule for which a line is refused. Want of memory is no rule.
 abbrev pub rule_of : LineRefusal → Option LineRule
@@ -37,12 +39,9 @@ two_words other = None
 
 -- ---- `day DATE`
 
--- A date is six digits.
-abbrev pub is_date : List ℕ → Bool
-is_date date = (length date == 6) && list_all is_digit date
-
+-- A date names a day of the calendar by its six digits.
 abbrev pub day_of : List ℕ → Result Event LineRule
-day_of date = if is_date date then Ok (Day date) else Err Grammar
+day_of date = result_map_both Day (λ why. Grammar) (day_from_text date)
 
 abbrev pub day_said : List (List ℕ) → Result Event LineRule
 day_said rest = some_or (one_word rest) Grammar >>= day_of

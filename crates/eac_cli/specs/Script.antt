@@ -1,15 +1,13 @@
 -- Scripts, and the first fault of what is none (this project's own).
-use Rattle.std.specs.Prelude.{◌≡◌, ℕ, List, [], ◌∷◌, ◌++◌, map, Bool, Option, Some, None, Result, Ok, Err, if◌then◌else◌}
-use Rattle.std.specs.Option.{option_map}
-use Rattle.std.specs.Ordering.{nat_cmp, is_lt}
-use Rattle.std.specs.Cmp.Lexicographic.{slice_cmp}
+use Rattle.std.specs.Prelude.{◌≡◌, ℕ, List, [], ◌∷◌, ◌++◌, map, length, nat_lt, Option, Some, None, Result, Ok, Err, if◌then◌else◌}
+use Rattle.std.specs.Option.{option_map, option_or}
 use Rattle.eac_base.specs.Text.{numbered_lines}
 use Rattle.eac_cli.specs.LineGrammar.{event_of, rule_number}
 use Rattle.eac_cli.specs.declared.event.Event.{Event}
 use Rattle.eac_cli.specs.declared.event.Event.TheVariants.{Day, Ask}
 use Rattle.eac_cli.specs.declared.event.EventLine.{EventLine}
 use Rattle.eac_cli.specs.declared.line_rule.LineRule.{LineRule}
-use Rattle.eac_cli.specs.declared.line_rule.LineRule.TheVariants.{TooEarly, DayFalls}
+use Rattle.eac_cli.specs.declared.line_rule.LineRule.TheVariants.{TooEarly, DayFalls, TooMany}
 use Rattle.eac_cli.specs.declared.line_rule.LineRefusal.{LineRefusal}
 use Rattle.eac_cli.specs.declared.line_rule.LineRefusal.TheVariants.{Rule, NoMemory}
 use Rattle.eac_cli.specs.declared.script.ScriptRefusal.{ScriptRefusal}
@@ -36,33 +34,39 @@ events_of ((n, Err rule) ∷ lines) = events_of lines
 -- ---- days
 
 -- The day in force after an event.
-abbrev pub later_day : Option (List ℕ) → Event → Option (List ℕ)
+abbrev pub later_day : Option ℕ → Event → Option ℕ
 later_day today (Day day) = Some day
 later_day today (Ask reference bytes) = today
 
 -- The day in force after all of these lines.
-abbrev pub day_after : Option (List ℕ) → List Line → Option (List ℕ)
+abbrev pub day_after : Option ℕ → List Line → Option ℕ
 day_after today [] = today
 day_after today ((n, Ok event) ∷ lines) = day_after (later_day today event) lines
 day_after today ((n, Err rule) ∷ lines) = day_after today lines
 
--- Days are texts of digits.
-abbrev pub is_before : List ℕ → List ℕ → Bool
-is_before day other = is_lt (slice_cmp nat_cmp day other)
-
 -- The rule of order that an event breaks on this day: a day is there before any other event, and no day falls.
-abbrev pub order_rule : Option (List ℕ) → Event → Option LineRule
+abbrev pub order_rule : Option ℕ → Event → Option LineRule
 order_rule None (Day day) = None
 order_rule None (Ask reference bytes) = Some TooEarly
-order_rule (Some today) (Day day) = if is_before day today then Some DayFalls else None
+order_rule (Some today) (Day day) = if nat_lt day today then Some DayFalls else None
 order_rule (Some today) (Ask reference bytes) = None
 
+-- ---- number
+
+-- A script has 20,000 events at most.
+abbrev pub count_rule : ℕ → Option LineRule
+count_rule events = if nat_lt events 20000 then None else Some TooMany
+
 -- ---- rules
+
+-- The least rule that an event breaks on this day and behind so many events.
+abbrev pub rule_behind : Option ℕ → ℕ → Event → Option LineRule
+rule_behind today events event = option_or (order_rule today event) (count_rule events)
 
 -- The least rule that a line breaks after the earlier lines.
 abbrev pub broken : List Line → Result Event LineRule → Option LineRule
 broken earlier (Err rule) = Some rule
-broken earlier (Ok event) = order_rule (day_after None earlier) event
+broken earlier (Ok event) = rule_behind (day_after None earlier) (length (events_of earlier)) event
 
 -- No line breaks a rule, each after the earlier lines and the lines before it.
 abbrev pub Unbroken : List Line → List Line → Type 0
@@ -97,12 +101,12 @@ refused_at line NoMemory = ScriptNoMemory
 -- ---- what every script keeps
 
 -- There is a day, or the event is one.
-abbrev pub HasDay : Option (List ℕ) → Event → Type 0
+abbrev pub HasDay : Option ℕ → Event → Type 0
 HasDay today (Day day) = Unit {0}
 HasDay (Some today) (Ask reference bytes) = Unit {0}
 HasDay None (Ask reference bytes) = ⊥
 
 -- A day stands before every event that is no day.
-abbrev pub InOrder : Option (List ℕ) → List EventLine → Type 0
+abbrev pub InOrder : Option ℕ → List EventLine → Type 0
 InOrder today [] = Unit {0}
 InOrder today (line ∷ lines) = HasDay today line.event × InOrder (later_day today line.event) lines

@@ -1,16 +1,15 @@
 // One line of a script by itself.
 ghost use Rattle.std.specs.Prelude.{◌≡◌, ℕ, List, [], ◌∷◌, ◌==◌, ◌&&◌, length};
-ghost use Rattle.std.specs.List.{list_all};
 ghost use Rattle.std.specs.Option.{option_copied};
 ghost use Rattle.eac_base.specs.Answers.{Answers, some_or};
-ghost use Rattle.eac_base.specs.Text.{is_digit};
 ghost use Rattle.eac_cli.specs.Lines.{pieces_left};
-ghost use Rattle.eac_cli.specs.LineGrammar.{rule_of, is_date, day_of, ask_of, ask_with, day_said, ask_said, event_of};
+ghost use Rattle.eac_cli.specs.LineGrammar.{rule_of, day_of, ask_of, ask_with, day_said, ask_said, event_of};
 
 use crate::event::Event;
 use crate::hex::read_hex;
 use crate::line_rule::{LineRefusal, LineRule};
 use crate::words::{are_words, cut, one_word, two_words};
+use cv_dates::day_from_text;
 use eac_base::{Octets, is_same};
 use holder_reference::{Reference, read_reference};
 use std::alloc::Global;
@@ -18,30 +17,14 @@ use std::alloc::Global;
 /// The most bytes that HEX may say.
 const MOST_BYTES: usize = 4096;
 
-/// Whether each byte is a digit.
-fn are_digits(bytes: &[u8]) -> bool
-    ensures { result ≡ list_all is_digit bytes.now }
-{
-    bytes.iter().all(|b| b'0' <= *b && *b <= b'9')
-}
-
-/// Six digits.
-fn is_date(date: &[u8]) -> bool
-    ensures { result ≡ is_date date.now }
-{
-    date.len() == 6 && are_digits(date)
-}
-
 /// Reads DATE.
 fn day_of(date: &[u8]) -> Result<Event, LineRefusal>
     ensures { Answers (λ event. event) rule_of result (day_of date.now) }
 {
-    if !is_date(date) {
-        return Err(LineRefusal::Rule(LineRule::Grammar));
+    match day_from_text(date) {
+        Ok(day) => Ok(Event::Day { day }),
+        Err(_) => Err(LineRefusal::Rule(LineRule::Grammar)),
     }
-    let mut day = [0u8; 6];
-    day.copy_from_slice(date);
-    Ok(Event::Day { day })
 }
 
 /// The event of a reference with these bytes.

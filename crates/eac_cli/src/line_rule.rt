@@ -13,6 +13,8 @@ pub enum LineRule {
     TooEarly,
     /// The day is before the day in force.
     DayFalls,
+    /// There are 20,000 event lines before it.
+    TooMany,
 }
 
 impl LineRule {
@@ -25,6 +27,7 @@ impl LineRule {
             LineRule::Limit => 2,
             LineRule::TooEarly => 4,
             LineRule::DayFalls => 5,
+            LineRule::TooMany => 7,
         }
     }
 }

@@ -1,12 +1,16 @@
 // A whole script.
 ghost use Rattle.std.specs.Prelude.{◌≡◌, IfOk, IfErr};
-ghost use Rattle.eac_cli.specs.Script.{IsScript, FaultOf, is_before, order_rule, later_day, refused_at};
+ghost use Rattle.eac_cli.specs.Script.{IsScript, FaultOf, order_rule, count_rule, rule_behind, later_day, refused_at};
 
 use crate::event::{Event, EventLine, EventLines};
 use crate::line_grammar::read_event;
 use crate::line_rule::{LineRefusal, LineRule};
 use crate::lines::next_numbered;
+use cv_dates::Day;
 use std::alloc::Global;
+
+/// The most event lines of a script.
+const MOST_EVENTS: usize = 20_000;
 
 /// A script: its events, each with its line.
 #[derive(Debug, Drop)]
@@ -23,21 +27,14 @@ pub enum ScriptRefusal {
     NoMemory,
 }
 
-/// Whether the day is before the other.
-fn is_before(day: [u8; 6], other: [u8; 6]) -> bool
-    ensures { result ≡ is_before day other }
-{
-    day.cmp(&other).is_lt()
-}
-
 /// The rule of order that the event breaks, where `today` is the day in force.
-fn order_rule(today: Option<[u8; 6]>, event: &Event) -> Option<LineRule>
-    ensures { result ≡ order_rule today event.now }
+fn order_rule(today: &Option<Day>, event: &Event) -> Option<LineRule>
+    ensures { result ≡ order_rule today.now event.now }
 {
     match (today, event) {
         (None, Event::Ask { .. }) => Some(LineRule::TooEarly),
         (Some(today), Event::Day { day }) => {
-            if is_before(*day, today) {
+            if day.is_before(today) {
                 Some(LineRule::DayFalls)
             } else {
                 None
@@ -47,13 +44,33 @@ fn order_rule(today: Option<[u8; 6]>, event: &Event) -> Option<LineRule>
     }
 }
 
-/// The day in force after the event.
-fn later_day(today: Option<[u8; 6]>, event: &Event) -> Option<[u8; 6]>
-    ensures { result ≡ later_day today event.now }
+/// The rule of number that the next event breaks behind so many.
+fn count_rule(events: usize) -> Option<LineRule>
+    ensures { result ≡ count_rule events }
 {
-    match event {
-        Event::Day { day } => Some(*day),
-        Event::Ask { .. } => today,
+    if events < MOST_EVENTS {
+        None
+    } else {
+        Some(LineRule::TooMany)
+    }
+}
+
+/// The first rule that the event breaks, on this day and behind so many events.
+fn rule_behind(today: &Option<Day>, events: usize, event: &Event) -> Option<LineRule>
+    ensures { result ≡ rule_behind today.now events event.now }
+{
+    match order_rule(today, event) {
+        Some(rule) => Some(rule),
+        None => count_rule(events),
+    }
+}
+
+/// Keeps the day in force after the event.
+fn keep_day(today: &mut Option<Day>, event: &Event)
+    ensures { today.new ≡ later_day today.old event.now }
+{
+    if let Event::Day { day } = event {
+        *today = Some(*day);
     }
 }
 
@@ -76,7 +93,7 @@ pub fn read_script(alloc: Global, bytes: &[u8]) -> Result<Script, ScriptRefusal>
     ensures fault { IfErr result (λ refusal. FaultOf bytes.now refusal) }
 {
     let mut events = EventLines::new(alloc);
-    let mut today: Option<[u8; 6]> = None;
+    let mut today: Option<Day> = None;
     let mut last: u64 = 0;
     let mut rest = bytes;
     while let Some((line, text, after)) = next_numbered(rest, last) {
@@ -84,11 +101,10 @@ pub fn read_script(alloc: Global, bytes: &[u8]) -> Result<Script, ScriptRefusal>
             Ok(event) => event,
             Err(refusal) => return Err(refused_at(line, refusal)),
         };
-        if let Some(rule) = order_rule(today, &event) {
+        if let Some(rule) = rule_behind(&today, events.len(), &event) {
             return Err(refused_at(line, LineRefusal::Rule(rule)));
         }
-        let next = later_day(today, &event);
-        today = next;
+        keep_day(&mut today, &event);
         if events.push(EventLine { line, event }).is_err() {
             return Err(ScriptRefusal::NoMemory);
         }
