@@ -1,28 +1,35 @@
 -- What every script and every fault keeps.
-use Rattle.std.proofs.Common.{◌≡◌, ℕ, List, [], ◌∷◌, ◌++◌, length, Some, None, Ok, Err, sym, ap, ◌∙◌, subst, append-nil, append_assoc}
+use Rattle.std.proofs.Common.{◌≡◌, ℕ, ◌+◌, ◌<◌, ◌≤◌, Bool, true, false, cond, refl, arith, length-append, lit≤, List, [], ◌∷◌, ◌++◌, length, Some, None, Ok, Err, sym, ap, ◌∙◌, subst, append-nil, append_assoc}
+use Rattle.std.proofs.lemmas.Bool.{ltb-false, ltb-true}
+use Rattle.std.specs.Prelude.{nat_lt}
 use Rattle.std.specs.declared.option.Option.{Option}
 use Rattle.std.specs.declared.result.Result.{Result}
-use Rattle.std.specs.Option.{option_map}
+use Rattle.std.specs.Option.{option_map, option_or}
 use Rattle.eac_cli.specs.LineGrammar.{rule_number}
-use Rattle.eac_cli.specs.Script.{Line, lines_read, events_of, day_after, rule_behind, broken, Unbroken, IsScript, IsFault, HasDay, InOrder}
+use Rattle.eac_cli.specs.Script.{Line, lines_read, events_of, day_after, order_rule, count_rule, rule_behind, broken, Unbroken, IsScript, IsFault, IsInPlace, InOrder}
 use Rattle.eac_cli.specs.declared.event.Event.{Event}
 use Rattle.eac_cli.specs.declared.event.Event.TheVariants.{Day, Ask}
 use Rattle.eac_cli.specs.declared.event.EventLine.{EventLine}
 use Rattle.eac_cli.specs.declared.line_rule.LineRule.{LineRule}
-use Rattle.eac_cli.specs.declared.line_rule.LineRule.TheVariants.{Grammar}
-use Rattle.eac_cli.proofs.Reading.{day_more}
+use Rattle.eac_cli.specs.declared.line_rule.LineRule.TheVariants.{Grammar, DayFalls, TooMany}
+use Rattle.eac_cli.proofs.Reading.{day_more, events_more}
 
--- ---- a day stands before every other event
+-- ---- each event is in its place
 
-has_day : (today : Option ℕ) (events : ℕ) (event : Event) → rule_behind today events event ≡ None → HasDay today event
-has_day today events (Day day) fine = tt
-has_day (Some day) events (Ask reference bytes) fine = tt
-has_day None events (Ask reference bytes) fine = cc
+none_before : (b : Bool) (o : Option LineRule) → option_or (cond b (Some DayFalls) None) o ≡ None → b ≡ false
+none_before true o fine = cc
+none_before false o fine = refl
+
+in_place : (today : Option ℕ) (events : ℕ) (event : Event) → rule_behind today events event ≡ None → IsInPlace today event
+in_place None events (Day day) fine = tt
+in_place None events (Ask reference bytes) fine = cc
+in_place (Some today) events (Day day) fine = ltb-false day today (none_before (nat_lt day today) (count_rule events) fine)
+in_place (Some today) events (Ask reference bytes) fine = tt
 
 order_after : (earlier lines : List Line) → Unbroken earlier lines → InOrder (day_after None earlier) (events_of lines)
 order_after earlier [] fine = tt
 order_after earlier ((n, Ok event) ∷ lines) fine =
-    (has_day (day_after None earlier) (length (events_of earlier)) event fine.0, subst (λ d. InOrder d (events_of lines)) (day_more None earlier n event) (order_after (earlier ++ (n, Ok event) ∷ []) lines fine.1))
+    (in_place (day_after None earlier) (length (events_of earlier)) event fine.0, subst (λ d. InOrder d (events_of lines)) (day_more None earlier n event) (order_after (earlier ++ (n, Ok event) ∷ []) lines fine.1))
 order_after earlier ((n, Err rule) ∷ lines) fine = absurd (never fine.0)
   where
     never : Some rule ≡ None → ⊥
@@ -30,6 +37,37 @@ order_after earlier ((n, Err rule) ∷ lines) fine = absurd (never fine.0)
 
 pub in_order : (bytes : List ℕ) (events : List EventLine) → IsScript bytes events → InOrder None events
 in_order bytes events s = subst (InOrder None) (sym s.events_are) (order_after [] (lines_read bytes) s.fine)
+
+-- ---- a script is short
+
+room : (today : Option ℕ) (events : ℕ) (event : Event) → rule_behind today events event ≡ None → events < 20000
+room today events event fine = below (nat_lt events 20000) (order_rule today event) refl fine
+  where
+    below : (b : Bool) (o : Option LineRule) → b ≡ nat_lt events 20000 → option_or o (cond b None (Some TooMany)) ≡ None → events < 20000
+    below b (Some rule) e fine = absurd (never fine)
+      where
+        never : Some rule ≡ None → ⊥
+        never e = cc
+    below false None e fine = absurd (never fine)
+      where
+        never : Some TooMany ≡ None → ⊥
+        never e = cc
+    below true None e fine = ltb-true events 20000 (sym e)
+
+count_after : (earlier lines : List Line) → length (events_of earlier) ≤ 20000 → Unbroken earlier lines → length (events_of earlier) + length (events_of lines) ≤ 20000
+count_after earlier [] before fine = omega arith
+count_after earlier ((n, Ok event) ∷ lines) before fine =
+    let below : length (events_of earlier) < 20000 = room (day_after None earlier) (length (events_of earlier)) event fine.0 in
+    let one : length (events_of (earlier ++ (n, Ok event) ∷ [])) ≡ length (events_of earlier) + 1 = ap length (events_more earlier n event) ∙ length-append (events_of earlier) (record { line = n; event = event } ∷ []) in
+    let more : length (events_of (earlier ++ (n, Ok event) ∷ [])) + length (events_of lines) ≤ 20000 = count_after (earlier ++ (n, Ok event) ∷ []) lines (omega arith) fine.1 in
+    omega arith
+count_after earlier ((n, Err rule) ∷ lines) before fine = absurd (never fine.0)
+  where
+    never : Some rule ≡ None → ⊥
+    never e = cc
+
+pub short : (bytes : List ℕ) (events : List EventLine) → IsScript bytes events → length events ≤ 20000
+short bytes events s = subst (λ es. length es ≤ 20000) (sym s.events_are) (omega (arith, count_after [] (lines_read bytes) (lit≤ tt) s.fine))
 
 -- ---- a script has no fault
 

@@ -29,7 +29,7 @@ day_more today [] n event = refl
 day_more today ((m, Ok first) ∷ lines) n event = day_more (later_day today first) lines n event
 day_more today ((m, Err rule) ∷ lines) n event = day_more today lines n event
 
-events_more : (lines : List Line) (n : ℕ) (event : Event) → events_of (lines ++ (n, Ok event) ∷ []) ≡ events_of lines ++ record { line = n; event = event } ∷ []
+pub events_more : (lines : List Line) (n : ℕ) (event : Event) → events_of (lines ++ (n, Ok event) ∷ []) ≡ events_of lines ++ record { line = n; event = event } ∷ []
 events_more [] n event = refl
 events_more ((m, Ok first) ∷ lines) n event = ap (λ l. record { line = m; event = first } ∷ l) (events_more lines n event)
 events_more ((m, Err rule) ∷ lines) n event = events_more lines n event

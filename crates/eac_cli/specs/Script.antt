@@ -1,5 +1,5 @@
 -- Scripts, and the first fault of what is none (this project's own).
-use Rattle.std.specs.Prelude.{◌≡◌, ℕ, List, [], ◌∷◌, ◌++◌, map, length, nat_lt, Option, Some, None, Result, Ok, Err, if◌then◌else◌}
+use Rattle.std.specs.Prelude.{◌≡◌, ◌≤◌, ℕ, List, [], ◌∷◌, ◌++◌, map, length, nat_lt, Option, Some, None, Result, Ok, Err, if◌then◌else◌}
 use Rattle.std.specs.Option.{option_map, option_or}
 use Rattle.eac_base.specs.Text.{numbered_lines}
 use Rattle.eac_cli.specs.LineGrammar.{event_of, rule_number}
@@ -100,13 +100,14 @@ refused_at line NoMemory = ScriptNoMemory
 
 -- ---- what every script keeps
 
--- There is a day, or the event is one.
-abbrev pub HasDay : Option ℕ → Event → Type 0
-HasDay today (Day day) = Unit {0}
-HasDay (Some today) (Ask reference bytes) = Unit {0}
-HasDay None (Ask reference bytes) = ⊥
+-- An event that is no day has a day before it, and a day isn't before the day in force.
+abbrev pub IsInPlace : Option ℕ → Event → Type 0
+IsInPlace None (Day day) = Unit {0}
+IsInPlace None (Ask reference bytes) = ⊥
+IsInPlace (Some today) (Day day) = today ≤ day
+IsInPlace (Some today) (Ask reference bytes) = Unit {0}
 
--- A day stands before every event that is no day.
+-- Each event is in its place after those before it.
 abbrev pub InOrder : Option ℕ → List EventLine → Type 0
 InOrder today [] = Unit {0}
-InOrder today (line ∷ lines) = HasDay today line.event × InOrder (later_day today line.event) lines
+InOrder today (line ∷ lines) = IsInPlace today line.event × InOrder (later_day today line.event) lines

@@ -1,5 +1,5 @@
 -- What holds of scripts and their faults, whoever reads them.
-use Rattle.std.specs.Prelude.{◌≡◌, ℕ, List, None}
+use Rattle.std.specs.Prelude.{◌≡◌, ◌≤◌, ℕ, List, length, None}
 use Rattle.eac_cli.specs.Script.{IsScript, IsFault, InOrder}
 use Rattle.eac_cli.specs.declared.event.EventLine.{EventLine}
 
@@ -15,6 +15,10 @@ FaultIsOne = (bytes : List ℕ) (line rule line' rule' : ℕ) → IsFault bytes 
 abbrev pub EventsAreOne : Type 0
 EventsAreOne = (bytes : List ℕ) (events events' : List EventLine) → IsScript bytes events → IsScript bytes events' → events ≡ events'
 
--- A script has a day before every other event.
-abbrev pub ScriptsBeginWithDay : Type 0
-ScriptsBeginWithDay = (bytes : List ℕ) (events : List EventLine) → IsScript bytes events → InOrder None events
+-- Each event of a script is in its place.
+abbrev pub ScriptsAreInOrder : Type 0
+ScriptsAreInOrder = (bytes : List ℕ) (events : List EventLine) → IsScript bytes events → InOrder None events
+
+-- A script has 20,000 events at most.
+abbrev pub ScriptsAreShort : Type 0
+ScriptsAreShort = (bytes : List ℕ) (events : List EventLine) → IsScript bytes events → length events ≤ 20000

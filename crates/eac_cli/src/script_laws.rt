@@ -1,5 +1,5 @@
 // What holds of every script and of every fault.
-ghost use Rattle.eac_cli.specs.ScriptLaws.{ScriptsAreFine, FaultIsOne, EventsAreOne, ScriptsBeginWithDay};
+ghost use Rattle.eac_cli.specs.ScriptLaws.{ScriptsAreFine, FaultIsOne, EventsAreOne, ScriptsAreInOrder, ScriptsAreShort};
 
 /// Bytes that are a script have no fault.
 pub fn scripts_have_no_fault()
@@ -16,7 +16,12 @@ pub fn events_are_one()
     ensures { EventsAreOne }
 {}
 
-/// In every script a day stands before the first other event.
-pub fn a_day_comes_first()
-    ensures { ScriptsBeginWithDay }
+/// In every script a day stands before the first other event, and no day is before the day in force.
+pub fn scripts_are_in_order()
+    ensures { ScriptsAreInOrder }
+{}
+
+/// Every script has 20,000 events at most.
+pub fn scripts_are_short()
+    ensures { ScriptsAreShort }
 {}
