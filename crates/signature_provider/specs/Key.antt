@@ -53,7 +53,7 @@ has_domain k = not (is_empty k.domain)
 abbrev pub is_form : KeyForm → Bool
 is_form f = is_algorithm f.algorithm && nat_le (length f.domain + length f.cofactor) 640
     && (if is_elliptic f.algorithm then is_domain f.domain && is_cofactor f.cofactor
-        else is_empty f.domain && is_empty f.cofactor)
+    else is_empty f.domain && is_empty f.cofactor)
 
 -- ---- the key's data object
 

@@ -1,0 +1,10 @@
+pub mod Opened
+pub mod KeyAgain
+pub mod CertAgain
+pub mod Stood
+pub mod FieldsStand
+pub mod KeyStands
+pub mod CertStands
+pub mod KeyViews
+pub mod Views
+pub mod Pushes

@@ -1,0 +1,58 @@
+-- What the code has in its hands, as the definitions speak of it: parts of the input, keys and certificates that lie in
+-- it, answers that may want memory.
+use Rattle.std.specs.Prelude.{◌≡◌, List, ℕ, Option, Some, None, option_map}
+use Rattle.signature_provider.specs.declared.key.Key.{Key}
+use Rattle.cvc_grammar.specs.declared.piece.Piece.{Piece}
+use Rattle.cvc_grammar.specs.declared.key_view.KeyParts.{KeyParts}
+use Rattle.cvc_grammar.specs.declared.cert_view.BodyView.{BodyView}
+use Rattle.cvc_grammar.specs.declared.certificate.CertBody.{CertBody}
+use Rattle.cvc_grammar.specs.declared.certificate.Cert.{Cert}
+use Rattle.cvc_grammar.specs.declared.certificate.CertView.{CertView}
+use Rattle.cvc_grammar.specs.declared.refusal.CvcRefusal.{CvcRefusal}
+use Rattle.cvc_grammar.specs.declared.refusal.ReadCvc.{ReadCvc}
+use Rattle.cvc_grammar.specs.declared.refusal.ReadCvc.TheVariants as reads
+use Rattle.cvc_grammar.specs.Certificate.{IsCert, body_text}
+use Rattle.cvc_grammar.specs.ReadingOrder.{Part}
+
+abbrev pub part_of : Piece → Part
+part_of p = record { place = p.place; bytes = p.bytes.now }
+
+abbrev pub seen_key : KeyParts → Key
+seen_key k = record { algorithm = k.key.algorithm; domain = k.key.domain.now; point = k.key.point.now; cofactor = k.cofactor.now }
+
+abbrev pub seen_body : BodyView → CertBody
+seen_body b = record {
+  authority = b.authority;
+  key = seen_key b.key;
+  holder = b.holder;
+  template = b.template;
+  from = b.from;
+  until = b.until;
+  extensions = option_map (λ e. e.now) b.extensions;
+}
+
+-- The certificate that a view is of.
+abbrev pub seen_cert : CertView → Cert
+seen_cert v = record {
+  body = record {
+    authority = v.authority;
+    key = record { algorithm = v.key.algorithm; domain = v.key.domain.now; point = v.key.point.now; cofactor = v.cofactor.now };
+    holder = v.holder;
+    template = v.template;
+    from = v.from;
+    until = v.until;
+    extensions = option_map (λ e. e.now) v.extensions;
+  };
+  signature = v.signature.now;
+}
+
+-- A view of this input: the certificate whose text it is, the whole of it, and the whole body object in it.
+pub record IsViewOf (bytes : List ℕ) (v : CertView) : Type 0 where
+  pub cert : IsCert (seen_cert v) bytes
+  pub whole : v.whole.now ≡ bytes
+  pub body : v.body.now ≡ body_text (seen_cert v).body
+
+-- A refusal other than for want of memory.
+abbrev pub refused_cvc : ReadCvc → Option CvcRefusal
+refused_cvc (reads.Refused e) = Some e
+refused_cvc reads.NoMemory = None

@@ -1,0 +1,84 @@
+// Certificates of their own.
+ghost use Rattle.std.specs.Prelude.{◌≡◌, Ok, IfOk, option_map};
+ghost use Rattle.eac_base.specs.Answers.{Answers};
+ghost use Rattle.cvc_grammar.specs.ReadingOrder as order;
+ghost use Rattle.cvc_grammar.specs.Certificate.{IsCert};
+ghost use Rattle.cvc_grammar.specs.Views.{seen_key, seen_cert, refused_cvc};
+ghost use Rattle.cvc_grammar.specs.declared.certificate.Cert.{Cert};
+
+use crate::key_view::KeyParts;
+use crate::piece::are_bytes;
+use crate::{Cert, CertBody, CertView, ReadCvc, view_cert};
+use eac_base::{NoMemory, Octets};
+use signature_provider::Key;
+use std::alloc::Global;
+
+pub fn own_key(alloc: Global, parts: KeyParts) -> Result<Key, NoMemory>
+    ensures { IfOk result (λ k. k ≡ seen_key parts.entry) }
+{
+    let key = parts.key;
+    Ok(Key {
+        algorithm: key.algorithm,
+        domain: Octets::from_slice(alloc, key.domain)?,
+        point: Octets::from_slice(alloc, key.point)?,
+        cofactor: Octets::from_slice(alloc, parts.cofactor)?,
+    })
+}
+
+pub fn own_extensions(alloc: Global, extensions: Option<&[u8]>) -> Result<Option<Octets>, NoMemory>
+    ensures { IfOk result (λ x. x ≡ option_map (λ e. e.now) extensions.entry) }
+{
+    match extensions {
+        None => Ok(None),
+        Some(bytes) => Ok(Some(Octets::from_slice(alloc, bytes)?)),
+    }
+}
+
+fn own_cert(alloc: Global, view: &CertView) -> Result<Cert, NoMemory>
+    ensures { IfOk result (λ c. c ≡ seen_cert view.now) }
+{
+    let key = own_key(
+        alloc,
+        KeyParts {
+            key: view.key,
+            cofactor: view.cofactor,
+        },
+    )?;
+    let extensions = own_extensions(alloc, view.extensions)?;
+    let signature = Octets::from_slice(alloc, view.signature)?;
+    Ok(Cert {
+        body: CertBody {
+            authority: view.authority,
+            key,
+            holder: view.holder,
+            template: view.template,
+            from: view.from,
+            until: view.until,
+            extensions,
+        },
+        signature,
+    })
+}
+
+fn own_view(alloc: Global, bytes: &[u8]) -> Result<Cert, ReadCvc>
+    ensures { Answers (λ c. c) refused_cvc result (order.read_cert bytes.now) }
+{
+    match view_cert(bytes) {
+        Err(e) => Err(ReadCvc::Refused(e)),
+        Ok(view) => match own_cert(alloc, &view) {
+            Ok(cert) => Ok(cert),
+            Err(_) => Err(ReadCvc::NoMemory),
+        },
+    }
+}
+
+/// The certificate of the input, copied. The refusals are those of `view_cert`, in its order; `NoMemory` can come in place
+/// of a certificate alone.
+pub fn read_cert(alloc: Global, bytes: &[u8]) -> Result<Cert, ReadCvc>
+    ensures exact { Answers (λ c. c) refused_cvc result (order.read_cert bytes.now) }
+    ensures found { IfOk result (λ c. IsCert c bytes.now) }
+    ensures only { (c : Cert) → IsCert c bytes.now → Answers (λ d. d) refused_cvc result (Ok c) }
+{
+    are_bytes(bytes);
+    own_view(alloc, bytes)
+}

@@ -1,0 +1,30 @@
+//! Card-verifiable certificates: what a chip reads to know a terminal by (BSI TR-03110-3, CV certificates).
+//!
+//! A certificate is a row of data objects that ends with a signature. `view_cert` reads one where it lies and takes no
+//! memory, `read_cert` copies what it read. Both read the whole input in one order, and answer the first step that fails
+//! with the place of its object in the input. `write_body` writes what a signature is over, `write_cert` the whole.
+//!
+//! A certificate has one text and a text is of one certificate; what was written is read, and what was read is written:
+//! the functions of `laws` say so.
+//!
+//! Whether a signature is good, whether a date has passed and who may certify whom is left to the layers above.
+#![tactic(auto)]
+
+mod body_fields;
+mod cert_copy;
+mod cert_view;
+mod cert_writing;
+mod certificate;
+mod key_parts;
+mod key_view;
+pub mod laws;
+mod object_writing;
+mod piece;
+mod refusal;
+mod signed;
+
+pub use cert_copy::read_cert;
+pub use cert_view::view_cert;
+pub use cert_writing::{write_body, write_cert};
+pub use certificate::{Cert, CertBody, CertView};
+pub use refusal::{CvcRefusal, ObjectFault, ReadCvc};

@@ -1,0 +1,76 @@
+// Parts of the input, each with its place, and the objects in them.
+ghost use Rattle.std.specs.Prelude.{◌≡◌, ◌+◌, ◌<◌, ◌≤◌, ◌^◌, length, Some, IfOk};
+ghost use Rattle.eac_base.specs.Answers.{Answers};
+ghost use Rattle.eac_base.specs.Bytes.{AreBytes};
+ghost use Rattle.cvc_grammar.specs.ReadingOrder as order;
+ghost use Rattle.cvc_grammar.specs.Views.{part_of};
+
+use crate::{CvcRefusal, ObjectFault};
+use tlv_core::{Tag, next_object};
+
+/// A part of the input, and the place of its first byte there.
+#[derive(Clone, Copy)]
+pub struct Piece<'a> {
+    pub place: u64,
+    pub bytes: &'a [u8],
+}
+
+/// The tag, the content and the rest.
+fn object_in<'a>(part: Piece<'a>) -> Result<(Tag, Piece<'a>, Piece<'a>), CvcRefusal>
+    requires { part.place + length part.bytes.now < 2 ^ 32 }
+    ensures exact { Answers (λ o. record { tag = o.0; content = part_of o.1; rest = part_of o.2 }) (λ e. Some e) result (order.object_in (part_of part.entry)) }
+    ensures content { IfOk result (λ o. o.1.place + length o.1.bytes.now ≤ part.entry.place + length part.entry.bytes.now) }
+    ensures rest { IfOk result (λ o. o.2.place + length o.2.bytes.now ≤ part.entry.place + length part.entry.bytes.now) }
+{
+    match next_object(part.bytes) {
+        Err(e) => Err(CvcRefusal::Object {
+            offset: part.place,
+            fault: ObjectFault::Tlv(e),
+        }),
+        Ok((tag, content, rest)) => {
+            let after = part.place + (part.bytes.len() - rest.len()) as u64;
+            Ok((
+                tag,
+                Piece {
+                    place: after - content.len() as u64,
+                    bytes: content,
+                },
+                Piece {
+                    place: after,
+                    bytes: rest,
+                },
+            ))
+        }
+    }
+}
+
+/// The content of the object at the front, which has to have this tag, and the rest.
+pub fn expected<'a>(tag: Tag, part: Piece<'a>) -> Result<(Piece<'a>, Piece<'a>), CvcRefusal>
+    requires { part.place + length part.bytes.now < 2 ^ 32 }
+    ensures exact { Answers (λ o. record { tag = tag; content = part_of o.0; rest = part_of o.1 }) (λ e. Some e) result (order.expected tag (part_of part.entry)) }
+    ensures content { IfOk result (λ o. o.0.place + length o.0.bytes.now ≤ part.entry.place + length part.entry.bytes.now) }
+    ensures rest { IfOk result (λ o. o.1.place + length o.1.bytes.now ≤ part.entry.place + length part.entry.bytes.now) }
+{
+    let (found, content, rest) = object_in(part)?;
+    if found != tag {
+        return Err(CvcRefusal::Object {
+            offset: part.place,
+            fault: ObjectFault::OtherTag,
+        });
+    }
+    Ok((content, rest))
+}
+
+pub fn nothing_in(part: Piece) -> Result<(), CvcRefusal>
+    ensures { Answers (λ _. tt) (λ e. Some e) result (order.nothing_in (part_of part.entry)) }
+{
+    match part.bytes {
+        [] => Ok(()),
+        [_, ..] => Err(CvcRefusal::Trailing),
+    }
+}
+
+/// For proofs: each item of a slice of bytes is one.
+pub fn are_bytes(bytes: &[u8])
+    ensures { AreBytes bytes.now }
+{}
