@@ -1,14 +1,18 @@
--- The words of the command.
-use Rattle.std.proofs.Common.{◌≡◌, ℕ, Bool, List, [], ◌∷◌, length, Some, sym, ap, ◌∙◌, arith}
-use Rattle.std.specs.Prelude.{◌↔◌, IsTrue, slice_get}
-use Rattle.std.specs.Str.{bytes_eq}
-use Rattle.eac_base.proofs.EqualBytes.{bytes_eq-true, bytes_eq-self}
+-- The words of a command.
+use Rattle.std.proofs.Common.{◌≡◌, ℕ, List, [], ◌∷◌, length, Some, None, refl, sym, ap, ◌∙◌, arith}
+use Rattle.std.specs.Prelude.{slice_get}
+use Rattle.std.specs.declared.option.Option.{Option}
+use Rattle.eac_cli.specs.declared.tool.Command.{Command}
+use Rattle.eac_cli.specs.Top.{command_named, command_of}
 
-pub one_word : (ws : List (List ℕ)) (w r : List ℕ) (b : Bool) → length ws ≡ 1 → Some w ≡ slice_get ws 0 → b ≡ bytes_eq w r → IsTrue b ↔ (ws ≡ r ∷ [])
-one_word [] w r b len e t = absurd (omega arith)
-one_word (v ∷ []) w r b len e t =
-    let same : w ≡ v = cc in (
-      λ yes. ap (λ x. x ∷ []) (sym same ∙ bytes_eq-true w r (sym t ∙ yes)),
-      λ (is : v ∷ [] ≡ r ∷ []). let h : w ≡ r = cc in t ∙ ap (λ x. bytes_eq x r) h ∙ bytes_eq-self r,
-    )
-one_word (v ∷ u ∷ us) w r b len e t = absurd (omega arith)
+-- words that are not one are no command
+pub not_one : (words : List (List ℕ)) → (length words ≡ 1 → ⊥) → None ≡ command_of words
+not_one [] other = refl
+not_one (v ∷ []) other = absurd (other refl)
+not_one (v ∷ u ∷ us) other = refl
+
+-- the one word is that of the command
+pub one_named : (words : List (List ℕ)) (word : List ℕ) (command : Option Command) → length words ≡ 1 → Some word ≡ slice_get words 0 → command ≡ command_named word → command ≡ command_of words
+one_named [] word command len is named = absurd (omega arith)
+one_named (v ∷ []) word command len is named = let same : word ≡ v = cc in named ∙ ap command_named same
+one_named (v ∷ u ∷ us) word command len is named = absurd (omega arith)

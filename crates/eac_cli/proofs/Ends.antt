@@ -11,7 +11,7 @@ use Rattle.eac_cli.specs.declared.running.Stop.TheVariants.{WriteFault as StopWr
 use Rattle.eac_cli.specs.declared.tool.Status.{Status}
 use Rattle.eac_cli.specs.declared.tool.Status.TheVariants.{Done, Usage, ScriptFault, TooLong, ReadFault, WriteFault, NoMemory}
 use Rattle.eac_cli.specs.Script.{IsScript, IsFault}
-use Rattle.eac_cli.specs.Top.{WasRead, Whole, Stopped, Claim, IsComplete, TellsFault, TellsLength, IsRunStatus, status_of, most_input}
+use Rattle.eac_cli.specs.Top.{Shows, IsShown, WasRead, Whole, Stopped, Claim, IsComplete, TellsFault, TellsLength, IsRunStatus, status_of, most_input}
 use Rattle.eac_cli.proofs.Orders.{no_fault, fault_is_one}
 
 module _ (rows rows' : Option (List Row)) (f f' : ℕ) (s t left : Option (List ℕ)) (bytes : List ℕ) (done : ℕ) where
@@ -85,3 +85,35 @@ module _ (rows rows' : Option (List Row)) (f f' : ℕ) (s t : Option (List ℕ))
   too_long None left' h read = tt
   too_long (Some all) None h read = absurd h.1
   too_long (Some all) (Some rest) h read = long_at rows rows' f f' s t all h.0 rest done h.1 R W status h.2 read
+
+-- ---- what has to be shown
+
+module _ (s t : Option (List ℕ)) (all bytes rest : List ℕ) (e : all ≡ bytes ++ rest) (R W : Type 0) where
+  shown_at : (status : Status) → Shows s t (Some rest) status bytes → (status ≡ ReadFault → R) → (status ≡ WriteFault → W) → IsShown all R W status
+  shown_at Done c read write within no_read no_write = inl refl
+  shown_at Usage c read write within no_read no_write = absurd c
+  shown_at (ScriptFault line rule) c read write within no_read no_write = absurd c
+  shown_at TooLong c read write within no_read no_write = absurd (omega (arith, c.0, within, no_longer all bytes rest e))
+  shown_at ReadFault c read write within no_read no_write = absurd (no_read (read refl))
+  shown_at WriteFault c read write within no_read no_write = absurd (no_write (write refl))
+  shown_at NoMemory c read write within no_read no_write = inr refl
+
+  length_at : (status : Status) → Shows s t (Some rest) status bytes → (status ≡ ReadFault → R) → TellsLength all R status
+  length_at Done c read long no_read = absurd (omega (arith, c.0.1, long, ap length (all_read all bytes rest e c.0.0)))
+  length_at Usage c read long no_read = absurd c
+  length_at (ScriptFault line rule) c read long no_read = absurd c
+  length_at TooLong c read long no_read = inl refl
+  length_at ReadFault c read long no_read = absurd (no_read (read refl))
+  length_at WriteFault c read long no_read = absurd (omega (arith, c.0.1, long, ap length (all_read all bytes rest e c.0.0)))
+  length_at NoMemory c read long no_read = inr refl
+
+module _ (s t : Option (List ℕ)) (status : Status) (R W : Type 0) where
+  pub shown : (left left' : Option (List ℕ)) → (bytes : List ℕ) × Consumes left left' bytes × Shows s t left' status bytes → (status ≡ ReadFault → R) → (status ≡ WriteFault → W) → IfSome left (λ all. IsShown all R W status)
+  shown None left' h read write = tt
+  shown (Some all) None h read write = absurd h.1
+  shown (Some all) (Some rest) h read write = shown_at s t all h.0 rest h.1 R W status h.2 read write
+
+  pub shown_length : (left left' : Option (List ℕ)) → (bytes : List ℕ) × Consumes left left' bytes × Shows s t left' status bytes → (status ≡ ReadFault → R) → IfSome left (λ all. TellsLength all R status)
+  shown_length None left' h read = tt
+  shown_length (Some all) None h read = absurd h.1
+  shown_length (Some all) (Some rest) h read = length_at s t all h.0 rest h.1 R W status h.2 read

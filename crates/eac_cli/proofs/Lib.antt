@@ -1,6 +1,7 @@
 pub mod CommandWords
 pub mod Cuts
 pub mod Ends
+pub mod Fields
 pub mod Hexes
 pub mod MayRun
 pub mod Orders

@@ -27,7 +27,7 @@ use Rattle.eac_cli.specs.Script.{later_day}
 use Rattle.eac_cli.specs.State.{State, first_state}
 use Rattle.eac_cli.specs.Turn.{asked_on, Answer, AskTurn, Turn, History, AnswersTo, AreAnswers, IsEnded, AreEnded}
 use Rattle.eac_cli.specs.Journal.{line_text, journal, events}
-use Rattle.eac_cli.specs.Top.{asks_of, asks, cases, RunTells, Run, Whole, SentUntil, Stopped}
+use Rattle.eac_cli.specs.Top.{asks_of, asks, cases, RunTells, RunOf, Whole, SentUntil, Stopped}
 use Rattle.eac_cli.specs.Steps.{IsAt, Steps, Sent, MayRun, MayRunAll}
 
 -- ---- lists of lines and answers
@@ -159,7 +159,7 @@ run_tells before after first last day lines answers t h at =
 
 -- ---- the ends of a run
 
-run_of : (rows rows' : Option (List Row)) (first last : ℕ) (day : Option ℕ) (lines : List EventLine) (answers : List Answer) → AreAnswers first (events lines) answers last → Told rows rows' (λ before after. (t : State) × History (first_state before first) (events lines) answers t × IsAt day after last t) → Run rows rows' first last lines answers
+run_of : (rows rows' : Option (List Row)) (first last : ℕ) (day : Option ℕ) (lines : List EventLine) (answers : List Answer) → AreAnswers first (events lines) answers last → Told rows rows' (λ before after. (t : State) × History (first_state before first) (events lines) answers t × IsAt day after last t) → RunOf rows rows' first last lines answers
 run_of rows rows' first last day lines answers answered history = record {
   answered = answered;
   told = told_more _ _ rows rows' history (λ (before after : List Row) (r : Reached first last day (events lines) answers before after). run_tells before after first last day lines answers r.0 r.1 r.2);

@@ -3,6 +3,7 @@ pub mod LineGrammar
 pub mod Lines
 pub mod Script
 pub mod ScriptLaws
+pub mod Show
 pub mod State
 pub mod Steps
 pub mod Top

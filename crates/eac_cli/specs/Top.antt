@@ -1,7 +1,8 @@
 -- What the top call did, by its status (this project's own).
-use Rattle.std.specs.Prelude.{◌≡◌, ◌⊎◌, ℕ, ◌+◌, ◌<◌, ◌≤◌, List, [], ◌∷◌, ◌++◌, length, map, take, codes, Option, Some, None, slice_get}
+use Rattle.std.specs.Prelude.{◌≡◌, ◌⊎◌, ℕ, ◌+◌, ◌<◌, ◌≤◌, List, [], ◌∷◌, ◌++◌, length, map, take, codes, Option, Some, None, slice_get, if◌then◌else◌}
 use Rattle.std.specs.Io.KnownBytes.{IsAtEnd, Appends}
-use Rattle.eac_base.specs.Causes.{Rose}
+use Rattle.std.specs.Str.{bytes_eq}
+use Rattle.eac_base.specs.Causes.{Rose, AppendsFront}
 use Rattle.eac_base.specs.Telling.{Told}
 use Rattle.keeper.specs.declared.rows.Row.{Row}
 use Rattle.issue_core.specs.declared.rule.Rule.{Rule}
@@ -12,16 +13,25 @@ use Rattle.eac_cli.specs.declared.event.Event.TheVariants.{Day, Ask}
 use Rattle.eac_cli.specs.declared.event.EventLine.{EventLine}
 use Rattle.eac_cli.specs.declared.running.Stop.{Stop}
 use Rattle.eac_cli.specs.declared.running.Stop.TheVariants.{WriteFault as StopWriteFault, NoMemory as StopNoMemory}
+use Rattle.eac_cli.specs.declared.tool.Command.{Command}
+use Rattle.eac_cli.specs.declared.tool.Command.TheVariants.{Run, Show}
 use Rattle.eac_cli.specs.declared.tool.Status.{Status}
 use Rattle.eac_cli.specs.declared.tool.Status.TheVariants.{Done, Usage, ScriptFault, TooLong, ReadFault, WriteFault, NoMemory}
 use Rattle.eac_cli.specs.Script.{later_day, IsScript, IsFault}
+use Rattle.eac_cli.specs.Show.{show_text}
 use Rattle.eac_cli.specs.State.{State, first_state}
 use Rattle.eac_cli.specs.Turn.{asked_on, Answer, Silent, Registered, Memory, History, AreAnswers, AreEnded, IsEnded}
 use Rattle.eac_cli.specs.Journal.{journal, line_text, events}
 
--- the words of the command
-abbrev pub run_words : List (List ℕ)
-run_words = codes "run" ∷ []
+-- ---- commands
+
+abbrev pub command_named : List ℕ → Option Command
+command_named word = if bytes_eq word (codes "run") then Some Run else if bytes_eq word (codes "show") then Some Show else None
+
+-- the command that these words are, if they are one
+abbrev pub command_of : List (List ℕ) → Option Command
+command_of (word ∷ []) = command_named word
+command_of other = None
 
 -- ---- a run of event lines
 
@@ -53,7 +63,7 @@ pub record RunTells (before after : List Row) (first last : ℕ) (lines : List E
 
 -- These lines were run in order, with these answers: what each answer is and the causes of faults, and where the rows
 -- are told afterwards the history.
-pub record Run (rows rows' : Option (List Row)) (first last : ℕ) (lines : List EventLine) (answers : List Answer) : Type 0 where
+pub record RunOf (rows rows' : Option (List Row)) (first last : ℕ) (lines : List EventLine) (answers : List Answer) : Type 0 where
   pub answered : AreAnswers first (events lines) answers last
   pub told : Told rows rows' (λ before after. RunTells before after first last lines answers)
 
@@ -84,7 +94,7 @@ module _ (rows rows' : Option (List Row)) (first last : ℕ) (old new : Option (
     pub answers : List Answer
     pub all : done ≡ length lines
     pub ended : AreEnded answers
-    pub run : Run rows rows' first last lines answers
+    pub run : RunOf rows rows' first last lines answers
     pub sent : Appends old new (journal lines answers)
 
   -- The first lines were run, and their journal lines went out whole. Then the next line was run, and the run stopped.
@@ -95,7 +105,7 @@ module _ (rows rows' : Option (List Row)) (first last : ℕ) (old new : Option (
     pub next : slice_get lines done ≡ Some line
     pub count : length answers ≡ done
     pub ended : AreEnded answers
-    pub run : Run rows rows' first last (take done lines ++ line ∷ []) (answers ++ answer ∷ [])
+    pub run : RunOf rows rows' first last (take done lines ++ line ∷ []) (answers ++ answer ∷ [])
     pub sent : SentUntil old new stop (journal (take done lines) answers) line.line answer
 
   -- what stands for each status, where the source has this left and these bytes were read
@@ -107,6 +117,23 @@ module _ (rows rows' : Option (List Row)) (first last : ℕ) (old new : Option (
   Claim left ReadFault done bytes = Nothing done
   Claim left WriteFault done bytes = WasRead left bytes × (lines : List EventLine) × IsScript bytes lines × Stopped StopWriteFault lines done
   Claim left NoMemory done bytes = Nothing done ⊎ (WasRead left bytes × (lines : List EventLine) × IsScript bytes lines × Stopped StopNoMemory lines done)
+
+-- ---- `show`
+
+-- What stands for each status of `show`, where the source has this left and these bytes were read: the text that is
+-- printed of them, or a front of it.
+abbrev pub Shows : Option (List ℕ) → Option (List ℕ) → Option (List ℕ) → Status → List ℕ → Type 0
+Shows old new left Done bytes = WasRead left bytes × Appends old new (show_text bytes)
+Shows old new left Usage bytes = ⊥
+Shows old new left (ScriptFault line rule) bytes = ⊥
+Shows old new left TooLong bytes = (most_input < length bytes) × (new ≡ old)
+Shows old new left ReadFault bytes = new ≡ old
+Shows old new left WriteFault bytes = WasRead left bytes × AppendsFront old new (show_text bytes)
+Shows old new left NoMemory bytes = new ≡ old
+
+-- Where no read and no write failed, what is within the limit is shown, but for want of memory.
+abbrev pub IsShown : List ℕ → Type 0 → Type 0 → Status → Type 0
+IsShown bytes read written status = length bytes ≤ most_input → ¬ read → ¬ written → (status ≡ Done) ⊎ (status ≡ NoMemory)
 
 -- ---- what has to come of a source that tells its bytes
 

@@ -13,6 +13,7 @@ mod lines;
 mod running;
 mod script;
 mod script_laws;
+mod show;
 #[cfg(test)]
 mod tests;
 mod tool;
@@ -47,7 +48,7 @@ fn main(rt: HostRuntime) -> ExitCode {
     let report = run_tool(alloc, &words, &mut source, &mut sink, &mut keeper);
     let _ = match report.status {
         Status::Done => Ok(()),
-        Status::Usage => eprintln!(rt; "usage: run"),
+        Status::Usage => eprintln!(rt; "usage: run | show"),
         Status::ScriptFault { line, rule } => eprintln!(rt; "script line {line} rule {rule}"),
         Status::TooLong => eprintln!(rt; "input too long"),
         Status::ReadFault => eprintln!(rt; "read fault"),

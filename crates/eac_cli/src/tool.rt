@@ -1,13 +1,14 @@
 // The top call.
-ghost use Rattle.std.specs.Prelude.{◌≡◌, ◌≢◌, ◌↔◌, ◌⊎◌, IsTrue, ℕ, ◌<◌, ◌≤◌, List, [], ◌∷◌, length, None, Some, Err, IfSome, IfErr, OnOk};
+ghost use Rattle.std.specs.Prelude.{◌≡◌, ◌≢◌, ℕ, ◌<◌, ◌≤◌, List, [], ◌∷◌, length, None, Some, Err, IfSome, IsSome};
 ghost use Rattle.std.specs.declared.option.Option.{Option};
 ghost use Rattle.std.specs.Io.KnownBytes.{Consumes, IsAtEnd};
 ghost use Rattle.eac_base.specs.Causes.{Rose};
-ghost use Rattle.eac_cli.specs.Top.{run_words, Claim, IsComplete, TellsFault, TellsLength, IsRunStatus, status_of, number_of_status};
+ghost use Rattle.eac_cli.specs.Top.{command_named, command_of, most_input, Shows, IsShown, Claim, IsComplete, TellsFault, TellsLength, IsRunStatus, status_of, number_of_status};
 
 use crate::running::{Stop, run_lines};
 use crate::script::{ScriptRefusal, read_script};
-use eac_base::{Acks, ReadRefusal, Sink, Source, Words, is_same, read_all};
+use crate::show::show_text;
+use eac_base::{Acks, Failed, ReadRefusal, Sink, Source, Words, is_same, read_all, write_all};
 use keeper::Keeper;
 use std::alloc::Global;
 
@@ -59,15 +60,36 @@ pub struct Report {
 // The most bytes that a source may give.
 const MOST_INPUT: u64 = 4_194_304;
 
-fn is_run(words: &Words) -> bool
-    ensures { IsTrue result ↔ (words.now ≡ run_words) }
+/// What the tool can do.
+#[derive(Clone, Copy, Debug, PartialEq, Eq)]
+pub enum Command {
+    /// `run`: the script of the source is run, and its journal goes to the sink.
+    Run,
+    /// `show`: the certificate that the source has is printed.
+    Show,
+}
+
+fn command_named(word: &[u8]) -> Option<Command>
+    ensures { result ≡ command_named word.now }
+{
+    if is_same(word, b"run") {
+        Some(Command::Run)
+    } else if is_same(word, b"show") {
+        Some(Command::Show)
+    } else {
+        None
+    }
+}
+
+fn command_of(words: &Words) -> Option<Command>
+    ensures { result ≡ command_of words.now }
 {
     if words.len() != 1 {
-        return false;
+        return None;
     }
     match words.get(0) {
-        Some(word) => is_same(word, b"run"),
-        None => false,
+        Some(word) => command_named(word),
+        None => None,
     }
 }
 
@@ -99,7 +121,7 @@ fn run_bytes<K: Sink, B: Keeper>(
     sink: &mut K,
     keeper: &mut B,
 ) -> (Status, u64)
-    requires { length bytes.now ≤ 4194304 }
+    requires { length bytes.now ≤ most_input }
     ensures claim { (left : Option (List ℕ)) → IsAtEnd left → Claim (B.rows keeper.old) (B.rows keeper.new) (B.faults keeper.old) (B.faults keeper.new) (K.taken sink.old) (K.taken sink.new) left result.0 result.1 bytes.now }
     ensures cause { IsRunStatus result.0 (K.faults sink.old) (K.faults sink.new) }
 {
@@ -152,10 +174,55 @@ fn run_source<S: Source, K: Sink, B: Keeper>(
     read_and_run(alloc, source, sink, keeper)
 }
 
-/// Does what the words ask: `run` reads a script from the source, runs it over the keeper's rows, and writes the
-/// journal to the sink, each event's line before the next event.
+// Prints what these bytes are.
+fn show_bytes<K: Sink>(alloc: Global, bytes: &[u8], sink: &mut K) -> Status
+    requires { length bytes.now ≤ most_input }
+    ensures shows { (left : Option (List ℕ)) → IsAtEnd left → Shows (K.taken sink.old) (K.taken sink.new) left result bytes.now }
+    ensures cause { IsRunStatus result (K.faults sink.old) (K.faults sink.new) }
+{
+    let Ok(text) = show_text(alloc, bytes) else {
+        return Status::NoMemory;
+    };
+    match write_all(sink, text.as_slice()) {
+        Ok(()) => Status::Done,
+        Err(Failed) => Status::WriteFault,
+    }
+}
+
+// Reads the source, and prints what it has.
+fn read_and_show<S: Source, K: Sink>(alloc: Global, source: &mut S, sink: &mut K) -> Status
+    ensures shows { (bytes : List ℕ) × Consumes (S.left source.old) (S.left source.new) bytes × Shows (K.taken sink.old) (K.taken sink.new) (S.left source.new) result bytes }
+    ensures read { result ≡ Status.ReadFault → Rose (S.faults source.old) (S.faults source.new) }
+    ensures write { result ≡ Status.WriteFault → Rose (K.faults sink.old) (K.faults sink.new) }
+    ensures not_usage { result ≢ Status.Usage }
+{
+    match read_all(alloc, source, MOST_INPUT) {
+        Ok(bytes) => show_bytes(alloc, bytes.as_slice(), sink),
+        Err(ReadRefusal::ReadFault) => Status::ReadFault,
+        Err(ReadRefusal::TooLong) => Status::TooLong,
+        Err(ReadRefusal::NoMemory) => Status::NoMemory,
+    }
+}
+
+// The same, and what it owes to a source that tells its bytes.
+fn show_source<S: Source, K: Sink>(alloc: Global, source: &mut S, sink: &mut K) -> Status
+    ensures shows { (bytes : List ℕ) × Consumes (S.left source.old) (S.left source.new) bytes × Shows (K.taken sink.old) (K.taken sink.new) (S.left source.new) result bytes }
+    ensures shown { IfSome (S.left source.old) (λ bytes. IsShown bytes (Rose (S.faults source.old) (S.faults source.new)) (Rose (K.faults sink.old) (K.faults sink.new)) result) }
+    ensures too_long { IfSome (S.left source.old) (λ bytes. TellsLength bytes (Rose (S.faults source.old) (S.faults source.new)) result) }
+    ensures read { result ≡ Status.ReadFault → Rose (S.faults source.old) (S.faults source.new) }
+    ensures write { result ≡ Status.WriteFault → Rose (K.faults sink.old) (K.faults sink.new) }
+    ensures not_usage { result ≢ Status.Usage }
+{
+    read_and_show(alloc, source, sink)
+}
+
+/// Does what the words ask.
 ///
-/// [`Status`] says when each status comes. A fault of the keeper is a journal line, and the run goes on.
+/// `run` reads a script from the source, runs it over the keeper's rows, and writes the journal to the sink, each
+/// event's line before the next event. A fault of the keeper is a journal line, and the run goes on. `show` reads a
+/// card-verifiable certificate and prints its fields, or why the input is none.
+///
+/// [`Status`] says when each status comes.
 pub fn run_tool<S: Source, K: Sink, B: Keeper>(
     alloc: Global,
     words: &Words,
@@ -164,22 +231,32 @@ pub fn run_tool<S: Source, K: Sink, B: Keeper>(
     keeper: &mut B,
 ) -> Report
     // `Usage` exactly where the words are none of a command; then nothing was asked of the outside.
-    ensures usage { result.status ≡ Status.Usage → words.now ≢ run_words }
-    ensures other_words { words.now ≢ run_words → (result.status ≡ Status.Usage) × (result.done ≡ 0) × (source.new ≡ source.old) × (sink.new ≡ sink.old) × (keeper.new ≡ keeper.old) }
-    // The bytes that were read, what the sink took, and the rows, by the status.
-    ensures run { words.now ≡ run_words → (bytes : List ℕ) × Consumes (S.left source.old) (S.left source.new) bytes × Claim (B.rows keeper.old) (B.rows keeper.new) (B.faults keeper.old) (B.faults keeper.new) (K.taken sink.old) (K.taken sink.new) (S.left source.new) result.status result.done bytes }
+    ensures usage { result.status ≡ Status.Usage → command_of words.now ≡ None }
+    ensures other_words { command_of words.now ≡ None → (result.status ≡ Status.Usage) × (result.done ≡ 0) × (source.new ≡ source.old) × (sink.new ≡ sink.old) × (keeper.new ≡ keeper.old) }
+    // `run`: the bytes that were read, what the sink took, and the rows, by the status.
+    ensures run { command_of words.now ≡ Some Command.Run → (bytes : List ℕ) × Consumes (S.left source.old) (S.left source.new) bytes × Claim (B.rows keeper.old) (B.rows keeper.new) (B.faults keeper.old) (B.faults keeper.new) (K.taken sink.old) (K.taken sink.new) (S.left source.new) result.status result.done bytes }
     // Where the source tells its bytes, a script is run, a fault is told, and too much is too long.
-    ensures complete { words.now ≡ run_words → IfSome (S.left source.old) (λ bytes. IsComplete bytes (Rose (S.faults source.old) (S.faults source.new)) (Rose (K.faults sink.old) (K.faults sink.new)) result.status) }
-    ensures faulty { words.now ≡ run_words → IfSome (S.left source.old) (λ bytes. TellsFault bytes (Rose (S.faults source.old) (S.faults source.new)) result.status) }
-    ensures too_long { words.now ≡ run_words → IfSome (S.left source.old) (λ bytes. TellsLength bytes (Rose (S.faults source.old) (S.faults source.new)) result.status) }
+    ensures complete { command_of words.now ≡ Some Command.Run → IfSome (S.left source.old) (λ bytes. IsComplete bytes (Rose (S.faults source.old) (S.faults source.new)) (Rose (K.faults sink.old) (K.faults sink.new)) result.status) }
+    ensures faulty { command_of words.now ≡ Some Command.Run → IfSome (S.left source.old) (λ bytes. TellsFault bytes (Rose (S.faults source.old) (S.faults source.new)) result.status) }
+    ensures too_long { IsSome (command_of words.now) → IfSome (S.left source.old) (λ bytes. TellsLength bytes (Rose (S.faults source.old) (S.faults source.new)) result.status) }
+    // `show`: the bytes that were read, and what the sink took. No row is asked for.
+    ensures show { command_of words.now ≡ Some Command.Show → (bytes : List ℕ) × Consumes (S.left source.old) (S.left source.new) bytes × Shows (K.taken sink.old) (K.taken sink.new) (S.left source.new) result.status bytes }
+    ensures shown { command_of words.now ≡ Some Command.Show → IfSome (S.left source.old) (λ bytes. IsShown bytes (Rose (S.faults source.old) (S.faults source.new)) (Rose (K.faults sink.old) (K.faults sink.new)) result.status) }
+    ensures show_keeps { command_of words.now ≡ Some Command.Show → (result.done ≡ 0) × (keeper.new ≡ keeper.old) }
     // A failure of the outside is told only where that object counted one.
     ensures read { result.status ≡ Status.ReadFault → Rose (S.faults source.old) (S.faults source.new) }
     ensures write { result.status ≡ Status.WriteFault → Rose (K.faults sink.old) (K.faults sink.new) }
     ensures acks { result.acks ≡ [] }
 {
-    if !is_run(words) {
-        return reported(alloc, Status::Usage, 0);
+    match command_of(words) {
+        None => reported(alloc, Status::Usage, 0),
+        Some(Command::Run) => {
+            let (status, done) = run_source(alloc, source, sink, keeper);
+            reported(alloc, status, done)
+        }
+        Some(Command::Show) => {
+            let status = show_source(alloc, source, sink);
+            reported(alloc, status, 0)
+        }
     }
-    let (status, done) = run_source(alloc, source, sink, keeper);
-    reported(alloc, status, done)
 }
