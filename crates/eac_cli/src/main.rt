@@ -9,14 +9,12 @@ mod hex;
 mod journal;
 mod line_grammar;
 mod line_rule;
-mod lines;
 mod running;
 mod script;
 mod script_laws;
 #[cfg(test)]
 mod tests;
 mod tool;
-mod words;
 mod world;
 
 use eac_base::{StdSink, StdSource, Words};
