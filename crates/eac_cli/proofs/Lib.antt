@@ -1,5 +1,4 @@
 pub mod CommandWords
-pub mod Cuts
 pub mod Ends
 pub mod Fields
 pub mod Hexes

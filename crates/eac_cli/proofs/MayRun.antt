@@ -17,7 +17,8 @@ use Rattle.eac_cli.specs.declared.event.Event.TheVariants.{Day, Ask}
 use Rattle.eac_cli.specs.declared.event.EventLine.{EventLine}
 use Rattle.eac_cli.specs.declared.line_rule.LineRule.{LineRule}
 use Rattle.eac_cli.specs.declared.line_rule.LineRule.TheVariants.{Grammar, Limit}
-use Rattle.eac_cli.specs.LineGrammar.{one_word, two_words, day_of, day_said, ask_with, ask_of, ask_said, event_said, event_of}
+use Rattle.policy_limits.specs.Lines.{one_word, two_words}
+use Rattle.eac_cli.specs.LineGrammar.{day_of, day_said, ask_with, ask_of, ask_said, event_said, event_of}
 use Rattle.eac_cli.specs.Script.{Line, line_of, lines_read, events_of, later_day, IsInPlace, InOrder, IsScript}
 use Rattle.eac_cli.specs.Steps.{MayRun, MayRunAll}
 use Rattle.eac_cli.proofs.Orders.{in_order}

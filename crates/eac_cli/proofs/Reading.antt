@@ -2,7 +2,7 @@
 use Rattle.std.proofs.Common.{◌≡◌, ℕ, ◌+◌, List, [], ◌∷◌, ◌++◌, map, length, None, Ok, Err, refl, sym, ap, ◌∙◌, subst, append-nil, append_assoc}
 use Rattle.std.specs.declared.option.Option.{Option}
 use Rattle.std.specs.declared.result.Result.{Result}
-use Rattle.eac_cli.specs.Lines.{numbered_from}
+use Rattle.policy_limits.specs.Lines.{numbered_from}
 use Rattle.eac_cli.specs.LineGrammar.{event_of}
 use Rattle.eac_cli.specs.Script.{Line, line_of, lines_read, events_of, later_day, day_after, rule_behind, broken, Unbroken}
 use Rattle.eac_cli.specs.declared.event.Event.{Event}

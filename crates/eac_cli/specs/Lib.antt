@@ -1,6 +1,5 @@
 pub mod Journal
 pub mod LineGrammar
-pub mod Lines
 pub mod Script
 pub mod ScriptLaws
 pub mod Show

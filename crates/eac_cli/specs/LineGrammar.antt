@@ -6,6 +6,7 @@ use Rattle.eac_base.specs.Answers.{◌>>=◌, ◌>>◌, unless, some_or}
 use Rattle.eac_base.specs.Text.{words, hex_bytes}
 use Rattle.cv_dates.specs.Calendar.{day_from_text}
 use Rattle.holder_reference.specs.Reference.{is_reference}
+use Rattle.policy_limits.specs.Lines.{one_word, two_words}
 use Rattle.eac_cli.specs.declared.event.Event.{Event}
 use Rattle.eac_cli.specs.declared.event.Event.TheVariants.{Day, Ask}
 use Rattle.eac_cli.specs.declared.line_rule.LineRule.{LineRule}
@@ -26,16 +27,6 @@ rule_number TooMany = 7
 abbrev pub rule_of : LineRefusal → Option LineRule
 rule_of (Rule rule) = Some rule
 rule_of NoMemory = None
-
--- ---- the number of words
-
-abbrev pub one_word : List (List ℕ) → Option (List ℕ)
-one_word (a ∷ []) = Some a
-one_word other = None
-
-abbrev pub two_words : List (List ℕ) → Option (List ℕ × List ℕ)
-two_words (a ∷ b ∷ []) = Some (a, b)
-two_words other = None
 
 -- ---- `day DATE`
 

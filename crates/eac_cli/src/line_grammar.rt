@@ -2,16 +2,16 @@
 ghost use Rattle.std.specs.Prelude.{◌≡◌, ℕ, List, [], ◌∷◌, ◌==◌, ◌&&◌, length};
 ghost use Rattle.std.specs.Option.{option_copied};
 ghost use Rattle.eac_base.specs.Answers.{Answers, some_or};
-ghost use Rattle.eac_cli.specs.Lines.{pieces_left};
+ghost use Rattle.policy_limits.specs.Lines.{pieces_left};
 ghost use Rattle.eac_cli.specs.LineGrammar.{rule_of, day_of, ask_of, ask_with, day_said, ask_said, event_of};
 
 use crate::event::Event;
 use crate::hex::read_hex;
 use crate::line_rule::{LineRefusal, LineRule};
-use crate::words::{are_words, cut, one_word, two_words};
 use cv_dates::day_from_text;
 use eac_base::{Octets, is_same};
 use holder_reference::{Reference, read_reference};
+use policy_limits::words::{are_words, cut, one_word, two_words};
 use std::alloc::Global;
 
 /// The most bytes that HEX may say.

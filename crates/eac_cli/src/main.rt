@@ -9,7 +9,6 @@ mod hex;
 mod journal;
 mod line_grammar;
 mod line_rule;
-mod lines;
 mod running;
 mod script;
 mod script_laws;
@@ -17,7 +16,6 @@ mod show;
 #[cfg(test)]
 mod tests;
 mod tool;
-mod words;
 mod world;
 
 use eac_base::{StdSink, StdSource, Words};

@@ -5,8 +5,8 @@ ghost use Rattle.eac_cli.specs.Script.{IsScript, FaultOf, order_rule, count_rule
 use crate::event::{Event, EventLine, EventLines};
 use crate::line_grammar::read_event;
 use crate::line_rule::{LineRefusal, LineRule};
-use crate::lines::next_numbered;
 use cv_dates::Day;
+use policy_limits::lines::next_numbered;
 use std::alloc::Global;
 
 /// The most event lines of a script.

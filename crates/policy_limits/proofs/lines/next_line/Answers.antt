@@ -1,7 +1,7 @@
 use Rattle.std.proofs.Common.{◌∷◌, arith, length, drop, take, ◌-◌, length-take, sym, ap, ◌∙◌}
 use Rattle.std.specs.Str.Lines.{lines}
-use Rattle.eac_cli.proofs.Cuts.{behind, line_some, line_last}
-use Rattle.eac_cli.proofs.lines.next_line.Goals as goal
+use Rattle.policy_limits.proofs.Cuts.{behind, line_some, line_last}
+use Rattle.policy_limits.proofs.lines.next_line.Goals as goal
 
 pub returns-then-at-bytes-clause-lines : goal.returns-then-at-bytes-clause-lines
 returns-then-at-bytes-clause-lines c =

@@ -1,6 +1,6 @@
 use Rattle.std.proofs.Common.{◌≡◌, ◌+◌, ◌≤◌, length}
-use Rattle.eac_cli.specs.Lines.{numbered_from}
-use Rattle.eac_cli.proofs.lines.next_numbered.Given as goal
+use Rattle.policy_limits.specs.Lines.{numbered_from}
+use Rattle.policy_limits.proofs.lines.next_numbered.Given as goal
 
 abbrev pub invariant-loop-rest : goal.invariant-loop-rest
 invariant-loop-rest l = record {

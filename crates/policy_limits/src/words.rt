@@ -3,8 +3,8 @@ ghost use Rattle.std.specs.Prelude.{◌≡◌, ℕ, ◌<◌, List, ◌∷◌, le
 ghost use Rattle.std.specs.List.{list_all};
 ghost use Rattle.std.specs.Option.{option_copied};
 ghost use Rattle.eac_base.specs.Text as text;
-ghost use Rattle.eac_cli.specs.Lines.{pieces, pieces_left};
-ghost use Rattle.eac_cli.specs.LineGrammar as grammar;
+ghost use Rattle.policy_limits.specs.Lines as lines;
+ghost use Rattle.policy_limits.specs.Lines.{pieces, pieces_left};
 
 use crate::lines::first_at;
 
@@ -58,7 +58,7 @@ pub fn are_words(line: &[u8]) -> bool
 
 /// The word, where there is just one.
 pub fn one_word(rest: Option<&[u8]>) -> Option<&[u8]>
-    ensures { option_copied result ≡ grammar.one_word (pieces_left (option_copied rest.entry)) }
+    ensures { option_copied result ≡ lines.one_word (pieces_left (option_copied rest.entry)) }
 {
     let Some(line) = rest else {
         return None;
@@ -72,7 +72,7 @@ pub fn one_word(rest: Option<&[u8]>) -> Option<&[u8]>
 
 /// The words, where there are just two.
 pub fn two_words(rest: Option<&[u8]>) -> Option<(&[u8], &[u8])>
-    ensures { MatchOption result (grammar.two_words (pieces_left (option_copied rest.entry)) ≡ None) (λ two. grammar.two_words (pieces_left (option_copied rest.entry)) ≡ Some (two.0.now, two.1.now)) }
+    ensures { MatchOption result (lines.two_words (pieces_left (option_copied rest.entry)) ≡ None) (λ two. lines.two_words (pieces_left (option_copied rest.entry)) ≡ Some (two.0.now, two.1.now)) }
 {
     let Some(line) = rest else {
         return None;

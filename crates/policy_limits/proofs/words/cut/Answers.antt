@@ -1,6 +1,6 @@
 use Rattle.std.proofs.Common.{arith}
-use Rattle.eac_cli.proofs.Cuts.{cut_some, cut_none}
-use Rattle.eac_cli.proofs.words.cut.Goals as goal
+use Rattle.policy_limits.proofs.Cuts.{cut_some, cut_none}
+use Rattle.policy_limits.proofs.words.cut.Goals as goal
 
 pub returns-then-at-line-clause-pieces : goal.returns-then-at-line-clause-pieces
 returns-then-at-line-clause-pieces c = cut_some c.args.line.now c.first_at-at.result c.first_at-at.ensures (omega arith)

@@ -1,8 +1,8 @@
 use Rattle.std.proofs.Common.{◌≡◌, length}
 use Rattle.std.specs.List.{list_all}
 use Rattle.eac_base.specs.Text.{is_word}
-use Rattle.eac_cli.specs.Lines.{pieces}
-use Rattle.eac_cli.proofs.words.are_words.Given as goal
+use Rattle.policy_limits.specs.Lines.{pieces}
+use Rattle.policy_limits.proofs.words.are_words.Given as goal
 
 abbrev pub invariant-words : goal.invariant-words
 invariant-words l = list_all is_word (pieces l.line) ≡ list_all is_word (pieces l.rest)

@@ -3,7 +3,7 @@ ghost use Rattle.std.specs.Prelude.{◌≡◌, ℕ, ◌+◌, ◌<◌, ◌≤◌,
 ghost use Rattle.std.specs.List.{position_or_len};
 ghost use Rattle.std.specs.Str.Lines.{lines, strip_carriage_return};
 ghost use Rattle.eac_base.specs.Text.{is_passed_over};
-ghost use Rattle.eac_cli.specs.Lines.{numbered_from};
+ghost use Rattle.policy_limits.specs.Lines.{numbered_from};
 
 /// Where the byte stands first, or the length.
 pub fn first_at(bytes: &[u8], byte: u8) -> usize

@@ -7,8 +7,7 @@ use Rattle.std.specs.Str.Lines.{lines, lines_of_parts, strip_carriage_return}
 use Rattle.std.proofs.lemmas.List.Splits.{slice_split_first}
 use Rattle.eac_base.proofs.Streams.{rest_is_whole}
 use Rattle.eac_base.specs.Text.{is_passed_over, is_word}
-use Rattle.eac_cli.specs.Lines.{pieces, pieces_left, numbered_from}
-use Rattle.eac_cli.specs.LineGrammar.{one_word}
+use Rattle.policy_limits.specs.Lines.{pieces, pieces_left, numbered_from, one_word}
 
 -- ---- at the first element that passes, and where none does
 

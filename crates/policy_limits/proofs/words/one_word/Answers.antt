@@ -1,7 +1,7 @@
 use Rattle.std.proofs.Common.{ap}
 use Rattle.std.specs.Option.{option_copied}
-use Rattle.eac_cli.proofs.Cuts.{more_than_one}
-use Rattle.eac_cli.proofs.words.one_word.Goals as goal
+use Rattle.policy_limits.proofs.Cuts.{more_than_one}
+use Rattle.policy_limits.proofs.words.one_word.Goals as goal
 
 pub returns-in-Some-after : goal.returns-in-Some-after
 returns-in-Some-after c =
