@@ -8,3 +8,4 @@ pub mod CertStands
 pub mod KeyViews
 pub mod Views
 pub mod Pushes
+pub mod Rows

@@ -22,6 +22,8 @@ mod object_writing;
 mod piece;
 mod refusal;
 mod signed;
+#[cfg(test)]
+mod tests;
 
 pub use cert_copy::read_cert;
 pub use cert_view::view_cert;
