@@ -9,3 +9,6 @@ pub mod KeyViews
 pub mod Views
 pub mod Pushes
 pub mod Rows
+pub mod RequestAgain
+pub mod RequestStands
+pub mod RequestViews
