@@ -1,27 +1,24 @@
 -- A request that was written is read.
-use Rattle.std.proofs.Common.{◌≡◌, ℕ, ◌+◌, ◌-◌, ◌<◌, ◌≤◌, Bool, true, false, cond, ◌&&◌, ◌||◌, not, leb, eqb, List, [], ◌∷◌, ◌++◌, length, Result, Ok, Option, Some, None, refl, sym, ap, ◌∙◌, append_assoc, arith}
+use Rattle.std.proofs.Common.{◌≡◌, ℕ, ◌<◌, ◌≤◌, true, false, ◌&&◌, leb, eqb, List, [], ◌++◌, length, Ok, Option, Some, None, refl, sym, ap, ◌∙◌, append_assoc, arith}
 use Rattle.std.specs.Prelude.{IsTrue, IfSome}
 use Rattle.std.proofs.lemmas.List.{length-append, append-nil}
 use Rattle.std.proofs.lemmas.Bool.{le-leb, leb-true}
-use Rattle.eac_base.specs.Bytes.{is_empty}
-use Rattle.tlv_core.specs.Object.{object, is_tag, First, first_object}
+use Rattle.tlv_core.specs.Object.{object, is_tag}
 use Rattle.tlv_core.proofs.Objects.{object_again}
-use Rattle.tlv_core.proofs.Steps.{ok_is}
 use Rattle.holder_reference.specs.Reference.{is_reference}
 use Rattle.signature_provider.specs.declared.key.Key.{Key}
-use Rattle.signature_provider.specs.Key.{is_key, key_fits, key_content, key_object, is_elliptic, has_domain}
-use Rattle.cvc_grammar.specs.declared.refusal.CvcRefusal.{CvcRefusal}
+use Rattle.signature_provider.specs.Key.{is_key, key_fits, key_content, key_object}
 use Rattle.cvc_grammar.specs.declared.request.RequestBody.{RequestBody}
 use Rattle.cvc_grammar.specs.declared.request.Outer.{Outer}
 use Rattle.cvc_grammar.specs.declared.request.Request.{Request}
 use Rattle.cvc_grammar.specs.Certificate.{profile_object, extensions_text, signature_object, is_signature}
-use Rattle.cvc_grammar.specs.Request.{authority_text, request_body_content, request_body_text, bare_text, outer_signed, with_outer, request_text, longest_request, is_request_key, HasLegalParts, IsLegalRequest, IsRequest}
+use Rattle.cvc_grammar.specs.Request.{authority_text, request_body_content, request_body_text, request_text, longest_request, is_request_key, HasLegalParts, IsLegalRequest}
 use Rattle.cvc_grammar.specs.ReadingOrder.{Part, Found, found_in, object_in, expected, profile_in, reference_in, key_in, extensions_in, signature_in, signed_in, whole}
 use Rattle.cvc_grammar.specs.RequestOrder.{authority_in, request_key_in, request_body_in, request_in, authenticated_in, read_request}
 use Rattle.cvc_grammar.specs.RequestLaws.{ReadAfterWrite, OneText, OneRequest}
-use Rattle.cvc_grammar.proofs.Opened.{Opened, opened, ReadAs, reference_read, reference_again}
+use Rattle.cvc_grammar.proofs.Opened.{opened, ReadAs, reference_read, reference_again, one_read}
 use Rattle.cvc_grammar.proofs.KeyAgain.{and_both}
-use Rattle.cvc_grammar.proofs.CertAgain.{longer, profile_read, key_read, extensions_read, signature_read, point_short, signed_steps}
+use Rattle.cvc_grammar.proofs.CertAgain.{at_end, longer, profile_read, key_read, extensions_read, signature_read, point_short, signed_steps}
 
 object_is : (tag : ℕ) (c more : List ℕ) (part : Part) → IsTrue (is_tag tag) → length c < 65536 → part.bytes ≡ object tag c ++ more → object_in part ≡ Ok (found_in part (record { tag = tag; content = c; rest = more }))
 object_is tag c more part known short e = rw (e) (rw (object_again tag c more known short) refl)
@@ -84,7 +81,7 @@ bare_read r part legal holder key inner size e =
     let body_size : length (request_body_content b) ≤ 2304 = omega (arith, size, length-append (request_body_text b) (signature_object r.inner), longer 0x7f4e (request_body_content b)) in
     let before = profile_object ++ authority_text b.authority ++ key_object b.key ++ object 0x5f20 b.holder in
     let o = opened 0x7f4e (request_body_content b) (signature_object r.inner) part refl (omega (arith, body_size)) e in
-    let signature = signature_read r.inner [] o.found.rest inner (o.rest_is ∙ sym (append-nil (signature_object r.inner))) in
+    let signature = signature_read r.inner [] o.found.rest inner (at_end (signature_object r.inner) o.found.rest.bytes o.rest_is) in
     let body = body_read b o.found.content legal holder key (omega (arith, body_size, length-append before (extensions_text b.extensions))) o.content_is in
     request_steps part o.found.content b r.inner r.outer r (signed_steps part o.found r.inner signature.rest o.is_found signature.is_read signature.rest_is) body refl
 
@@ -132,7 +129,7 @@ again b inner (Some w) legal can =
     let f = found_in (whole text) (record { tag = 0x67; content = parts; rest = [] }) in
     let first = opened 0x7f21 content (object 0x42 w.reference ++ signature) f.content refl (omega (arith, bare_size)) (three bare (object 0x42 w.reference) signature) in
     let reference = reference_read 0x42 w.reference signature first.found.rest refl legal.outer first.rest_is in
-    let signed = signature_read w.signature [] reference.rest can.outer (reference.rest_is ∙ sym (append-nil signature)) in
+    let signed = signature_read w.signature [] reference.rest can.outer (at_end signature reference.rest.bytes reference.rest_is) in
     outer_steps text f r (le-leb (length text) 2304 size) o refl refl
     (authenticated_steps f.content first.found w.reference w.signature reference.rest signed.rest r first.is_found reference.is_read signed.is_read signed.rest_is
     (bare_read r first.found.content legal.body.authority legal.body.holder can.key can.inner bare_size first.content_is))
@@ -147,4 +144,4 @@ pub one_text : OneText
 one_text r one other p q = p.spelling ∙ sym q.spelling
 
 pub one_request : OneRequest
-one_request r s bytes p q = ok_is r s (sym (read_after_write r bytes p) ∙ read_after_write s bytes q)
+one_request r s bytes p q = one_read (read_request bytes) r s (read_after_write r bytes p) (read_after_write s bytes q)

@@ -1,28 +1,27 @@
 -- What is read as a request is its text.
-use Rattle.std.proofs.Common.{◌≡◌, ℕ, ◌+◌, ◌-◌, ◌<◌, ◌≤◌, Bool, true, false, cond, ◌&&◌, ◌||◌, not, leb, eqb, List, [], ◌∷◌, ◌++◌, length, Result, Ok, Option, Some, None, refl, sym, ap, ◌∙◌, append_assoc, arith, inl, inr}
+use Rattle.std.proofs.Common.{◌≡◌, ℕ, ◌≤◌, true, false, ◌||◌, leb, eqb, List, [], ◌++◌, length, Ok, Option, Some, None, refl, sym, ap, ◌∙◌, append_assoc, arith, inl, inr}
 use Rattle.std.specs.Prelude.{IsTrue, IfSome}
-use Rattle.std.proofs.lemmas.List.{length-append, append-nil}
+use Rattle.std.proofs.lemmas.List.{append-nil}
 use Rattle.std.proofs.lemmas.Bool.{leb-true, eqb-true}
 use Rattle.eac_base.specs.Bytes.{AreBytes, is_empty}
-use Rattle.eac_base.specs.Answers.{◌>>=◌, ◌>>◌, unless, refused_as}
-use Rattle.tlv_core.specs.Object.{object, First, first_object}
+use Rattle.eac_base.specs.Answers.{◌>>=◌, refused_as}
+use Rattle.tlv_core.specs.Object.{object, first_object}
 use Rattle.tlv_core.proofs.Steps.{chosen, empty_is, bind_ok, unless_ok, as_ok, ok_is}
 use Rattle.holder_reference.specs.Reference.{is_reference}
 use Rattle.signature_provider.specs.declared.key.Key.{Key}
-use Rattle.signature_provider.specs.Key.{is_key, key_fits, key_content, key_object}
-use Rattle.cvc_grammar.specs.declared.refusal.CvcRefusal.{CvcRefusal}
+use Rattle.signature_provider.specs.Key.{key_content, key_object}
 use Rattle.cvc_grammar.specs.declared.request.RequestBody.{RequestBody}
 use Rattle.cvc_grammar.specs.declared.request.Outer.{Outer}
 use Rattle.cvc_grammar.specs.declared.request.Request.{Request}
 use Rattle.cvc_grammar.specs.Certificate.{profile_object, extensions_text, signature_object, is_signature}
-use Rattle.cvc_grammar.specs.Request.{authority_text, request_body_content, request_body_text, bare_text, with_outer, request_text, longest_request, is_request_key, HasLegalParts, IsLegalRequest, IsRequest}
+use Rattle.cvc_grammar.specs.Request.{authority_text, request_body_content, request_body_text, with_outer, request_text, longest_request, is_request_key, IsRequest}
 use Rattle.cvc_grammar.specs.ReadingOrder.{Part, Found, found_in, object_in, expected, profile_in, reference_in, key_in, extensions_in, signature_in, signed_in, whole}
-use Rattle.cvc_grammar.specs.RequestOrder.{authority_in, request_key_in, request_body_in, request_in, authenticated_in, read_request}
+use Rattle.cvc_grammar.specs.RequestOrder.{authority_in, request_key_in, request_body_in, request_in, authenticated_in}
 use Rattle.cvc_grammar.specs.RequestLaws.{WriteAfterRead}
 use Rattle.cvc_grammar.proofs.RequestAgain.{regrouped}
-use Rattle.cvc_grammar.proofs.Stood.{Stood, stood, stood_of, stood_same, along}
+use Rattle.cvc_grammar.proofs.Stood.{Stood, stood, stood_of, stood_same}
 use Rattle.cvc_grammar.proofs.FieldsStand.{ReadThere, reference_stands}
-use Rattle.cvc_grammar.proofs.CertStands.{profile_there, key_there, extensions_there, signature_there, SignedThere, signed_there}
+use Rattle.cvc_grammar.proofs.CertStands.{profile_there, key_there, extensions_there, signature_there, signed_there}
 
 -- ---- the authority's reference
 

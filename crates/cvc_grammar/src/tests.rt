@@ -1,5 +1,6 @@
 // What no clause says: that the definitions mean the worked certificates and real key sizes, and that the calls find
 // memory.
+mod requests;
 mod texts;
 
 ghost use Rattle.std.specs.Prelude.{◌<◌};
@@ -28,14 +29,16 @@ fn is_refused(rt: &impl Abort, alloc: Global, bytes: &[u8], refusal: CvcRefusal,
     assert_eq!(rt; refusal.number(), number);
 }
 
-fn no_object(offset: u64, fault: TlvRefusal) -> CvcRefusal {
+/// No object can be read there.
+pub(crate) fn no_object(offset: u64, fault: TlvRefusal) -> CvcRefusal {
     CvcRefusal::Object {
         offset,
         fault: ObjectFault::Tlv(fault),
     }
 }
 
-fn other_tag(offset: u64) -> CvcRefusal {
+/// The object there has another tag.
+pub(crate) fn other_tag(offset: u64) -> CvcRefusal {
     CvcRefusal::Object {
         offset,
         fault: ObjectFault::OtherTag,

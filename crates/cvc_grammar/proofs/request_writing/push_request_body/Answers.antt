@@ -1,4 +1,4 @@
-use Rattle.std.proofs.Common.{◌≡◌, ℕ, List, ◌++◌, ◌∷◌, [], ap, sym, refl, rules, ◌&&◌, ◌||◌, not}
+use Rattle.std.proofs.Common.{◌≡◌, ◌++◌, ap, sym, ◌&&◌, ◌||◌, not}
 use Rattle.tlv_core.specs.Object.{object}
 use Rattle.signature_provider.specs.Key.{is_key, key_fits, key_object, is_elliptic, has_domain}
 use Rattle.cvc_grammar.specs.Certificate.{extensions_text, profile_object}
