@@ -17,10 +17,13 @@ use Rattle.cvc_grammar.specs.declared.certificate.Cert.{Cert}
 use Rattle.cvc_grammar.specs.Certificate.{profile_object, extensions_text, body_content, body_text, signature_object, cert_text, HasLegalFields, IsLegalCert, is_signature, is_key_of_body, longest_cert}
 use Rattle.cvc_grammar.specs.ReadingOrder.{Part, Found, expected, reference_in, date_in, profile_in, key_in, template_in, extensions_in, signature_in, cert_body_in, signed_in, whole, read_cert}
 use Rattle.cvc_grammar.specs.Laws.{ReadAfterWrite, OneText, OneCert}
-use Rattle.tlv_core.proofs.Steps.{ok_is}
-use Rattle.cvc_grammar.proofs.Opened.{opened, ReadAs, reference_read, date_read}
+use Rattle.cvc_grammar.proofs.Opened.{opened, ReadAs, reference_read, date_read, one_read}
 use Rattle.chat_rights.proofs.Templates.{template_again}
 use Rattle.cvc_grammar.proofs.KeyAgain.{key_again, and_both}
+
+-- Bytes with nothing behind them.
+pub at_end : (text bytes : List ℕ) → bytes ≡ text → bytes ≡ text ++ []
+at_end text bytes e = e ∙ sym (append-nil text)
 
 -- An object is longer than its content.
 pub longer : (tag : ℕ) (c : List ℕ) → length c ≤ length (object tag c)
@@ -54,7 +57,7 @@ extension_step part f c full e s r = rw (full, e, r, s) refl
 pub extensions_read : (x : Option (List ℕ)) (part : Part) → length (extensions_text x) < 65536 → part.bytes ≡ extensions_text x → extensions_in part ≡ Ok x
 extensions_read None part short e = rw e refl
 extensions_read (Some c) part short e =
-    let o = opened 0x65 c [] part refl (omega (arith, longer 0x65 c)) (e ∙ sym (append-nil (object 0x65 c))) in
+    let o = opened 0x65 c [] part refl (omega (arith, longer 0x65 c)) (at_end (object 0x65 c) part.bytes e) in
     extension_step part o.found c (ap is_empty e) o.is_found o.content_is o.rest_is
 
 signature_step : (part : Part) (f : Found) (c : List ℕ) → expected 0x5f37 part ≡ Ok f → f.content.bytes ≡ c → is_signature c ≡ true → signature_in part ≡ Ok (c, f.rest)
@@ -135,7 +138,7 @@ cert_again c legal can =
     let sizes : Sizes b = record { point = omega (arith, point_short b.key keys.1); extensions = omega (arith, body_size, length-append before (extensions_text b.extensions)) } in
     let o = opened 0x7f21 inner [] (whole (cert_text c)) refl (omega (arith, inner_size)) (sym (append-nil (cert_text c))) in
     let body = opened 0x7f4e (body_content b) (signature_object c.signature) o.found.content refl (omega (arith, body_size)) o.content_is in
-    let signature = signature_read c.signature [] body.found.rest can.signature (body.rest_is ∙ sym (append-nil (signature_object c.signature))) in
+    let signature = signature_read c.signature [] body.found.rest can.signature (at_end (signature_object c.signature) body.found.rest.bytes body.rest_is) in
     whole_steps (cert_text c) c o.found body.found.content (le-leb (length (cert_text c)) 1792 all) o.is_found o.rest_is
     (signed_steps o.found.content body.found c.signature signature.rest body.is_found signature.is_read signature.rest_is)
     (body_read b body.found.content legal can.key sizes body.content_is)
@@ -149,4 +152,4 @@ pub one_text : OneText
 one_text c one other p q = p.spelling ∙ sym q.spelling
 
 pub one_cert : OneCert
-one_cert c d bytes p q = ok_is c d (sym (read_after_write c bytes p) ∙ read_after_write d bytes q)
+one_cert c d bytes p q = one_read (read_cert bytes) c d (read_after_write c bytes p) (read_after_write d bytes q)

@@ -8,3 +8,7 @@ pub mod CertStands
 pub mod KeyViews
 pub mod Views
 pub mod Pushes
+pub mod Rows
+pub mod RequestAgain
+pub mod RequestStands
+pub mod RequestViews

@@ -52,3 +52,7 @@ pub date_read : (tag day : ℕ) (more : List ℕ) (part : Part) → IsTrue (is_t
 date_read tag day more part known legal e =
     let o = opened tag (date_of day) more part known (omega arith) e in
     record { rest = o.found.rest; is_read = rw (o.is_found, o.content_is, each_day_is_read day legal) refl; rest_is = o.rest_is }
+
+-- What is read as one and as the other.
+pub one_read : {A F : Type 0} (r : Result A F) (x y : A) → r ≡ Ok x → r ≡ Ok y → x ≡ y
+one_read r x y p q = cc

@@ -1,5 +1,9 @@
 pub mod KeyObject
 pub mod Certificate
+pub mod Request
 pub mod ReadingOrder
+pub mod RequestOrder
 pub mod Views
+pub mod RequestViews
 pub mod Laws
+pub mod RequestLaws

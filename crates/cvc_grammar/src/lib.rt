@@ -1,11 +1,13 @@
-//! Card-verifiable certificates: what a chip reads to know a terminal by (BSI TR-03110-3, CV certificates).
+//! Card-verifiable certificates, which a chip reads to know a terminal by, and the requests that ask for them
+//! (BSI TR-03110-3, CV certificates and certificate requests).
 //!
 //! A certificate is a row of data objects that ends with a signature. `view_cert` reads one where it lies and takes no
 //! memory, `read_cert` copies what it read. Both read the whole input in one order, and answer the first step that fails
-//! with the place of its object in the input. `write_body` writes what a signature is over, `write_cert` the whole.
+//! with the place of its object in the input. `write_body` writes what a signature is over, `write_cert` the whole. A
+//! request is read by `read_request` and written by three calls, one for each thing that is signed or sent.
 //!
-//! A certificate has one text and a text is of one certificate; what was written is read, and what was read is written:
-//! the functions of `laws` say so.
+//! A certificate and a request have one text, and a text is of one of them; what was written is read, and what was read
+//! is written: the functions of `laws` say so.
 //!
 //! Whether a signature is good, whether a date has passed and who may certify whom is left to the layers above.
 #![tactic(auto)]
@@ -21,10 +23,19 @@ pub mod laws;
 mod object_writing;
 mod piece;
 mod refusal;
+mod request;
+mod request_copy;
+mod request_view;
+mod request_writing;
 mod signed;
+#[cfg(test)]
+mod tests;
 
 pub use cert_copy::read_cert;
 pub use cert_view::view_cert;
 pub use cert_writing::{write_body, write_cert};
 pub use certificate::{Cert, CertBody, CertView};
 pub use refusal::{CvcRefusal, ObjectFault, ReadCvc};
+pub use request::{Outer, Request, RequestBody};
+pub use request_copy::read_request;
+pub use request_writing::{write_request, write_request_body, write_signed_part};

@@ -16,7 +16,7 @@ pub struct Piece<'a> {
 }
 
 /// The tag, the content and the rest.
-fn object_in<'a>(part: Piece<'a>) -> Result<(Tag, Piece<'a>, Piece<'a>), CvcRefusal>
+pub fn object_in<'a>(part: Piece<'a>) -> Result<(Tag, Piece<'a>, Piece<'a>), CvcRefusal>
     requires { part.place + length part.bytes.now < 2 ^ 32 }
     ensures exact { Answers (λ o. record { tag = o.0; content = part_of o.1; rest = part_of o.2 }) (λ e. Some e) result (order.object_in (part_of part.entry)) }
     ensures content { IfOk result (λ o. o.1.place + length o.1.bytes.now ≤ part.entry.place + length part.entry.bytes.now) }

@@ -21,7 +21,7 @@ pub enum ObjectFault {
 /// The first step of the reading order that fails.
 #[derive(Clone, Copy, Debug, PartialEq, Eq)]
 pub enum CvcRefusal {
-    /// The input has more bytes than its kind may have: 1,792 for a certificate.
+    /// The input has more bytes than its kind may have: 1,792 for a certificate, 2,304 for a request.
     TooLong,
     /// The object that is due isn't there. The offset is the place of its first byte in the input.
     Object { offset: u64, fault: ObjectFault },
