@@ -10,6 +10,15 @@
 //! verifies.
 #![tactic(auto)]
 
+mod digest;
+mod forms;
 mod key;
+mod key_view;
+mod made_keys;
+mod planned;
+mod provider;
 
+pub use digest::DigestProvider;
+pub use forms::plain_form;
 pub use key::{Algorithm, FormName, Key, KeyForm, KeyView};
+pub use provider::{SignRefusal, SignatureProvider};
