@@ -40,7 +40,7 @@ same_key-self a = rw (eq-eqb a.algorithm.arc a.algorithm.arc refl, eq-eqb a.algo
 
 -- ---- a point tells its number
 
-number_told : (n m : ℕ) → n < 2 ^ 64 → m < 2 ^ 64 → to_be_bytes w64 n ≡ to_be_bytes w64 m → n ≡ m
+pub number_told : (n m : ℕ) → n < 2 ^ 64 → m < 2 ^ 64 → to_be_bytes w64 n ≡ to_be_bytes w64 m → n ≡ m
 number_told n m p q e = sym (from_be_bytes-to_be_bytes_8 n p) ∙ ap (from_be_bytes w64) e ∙ from_be_bytes-to_be_bytes_8 m q
 
 abbrev spelt : Bool → ℕ → List ℕ

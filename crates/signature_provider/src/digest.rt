@@ -15,8 +15,8 @@ use std::alloc::Global;
 use std::marker::Model;
 
 /// Signs by a digest over a secret, the key and the message. It needs no table, so what it says it says from the start,
-/// also for keys that it hasn't made. It doesn't tell what it signed, and never fails.
-#[derive(Debug, Drop)]
+/// also for keys that it hasn't made. It doesn't tell what it signed, and never fails. It isn't printed, for its secret.
+#[derive(Drop)]
 pub struct DigestProvider {
     secret: [u8; 32],
     keys: MadeKeys,

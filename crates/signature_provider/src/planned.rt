@@ -1,5 +1,5 @@
 // Calls that fail by a plan.
-ghost use Rattle.std.specs.Prelude.{◌≡◌, ℕ, IsTrue, ◌↔◌, if◌then◌else◌};
+ghost use Rattle.std.specs.Prelude.{◌≡◌, ◌≤◌, IsTrue, ◌↔◌, if◌then◌else◌};
 ghost use Rattle.eac_base.specs.Planned.{IsPlanned, next_count};
 
 use eac_base::FailPlan;
@@ -10,6 +10,7 @@ pub(crate) fn begin(plan: &FailPlan, calls: &mut u64, faults: &mut u64) -> bool
     ensures planned { IsTrue result ↔ IsPlanned plan.now calls.old }
     ensures calls { calls.new ≡ next_count calls.old }
     ensures faults { faults.new ≡ (if result then next_count faults.old else faults.old) }
+    ensures later { faults.old ≤ faults.new }
 {
     let fails = match calls.checked_add(1) {
         Some(call) => {
