@@ -1,1 +1,3 @@
+pub mod Instruments
 pub mod Key
+pub mod Provider

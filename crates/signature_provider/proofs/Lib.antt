@@ -1,0 +1,2 @@
+pub mod NumberedKeys
+pub mod Tables

@@ -1,0 +1,26 @@
+// Calls that fail by a plan.
+ghost use Rattle.std.specs.Prelude.{◌≡◌, ◌≤◌, IsTrue, ◌↔◌, if◌then◌else◌};
+ghost use Rattle.eac_base.specs.Planned.{IsPlanned, next_count};
+
+use eac_base::FailPlan;
+
+/// Counts a call, and its failing where it fails by the plan. Gives whether it fails. Both counts stay at their last
+/// value.
+pub(crate) fn begin(plan: &FailPlan, calls: &mut u64, faults: &mut u64) -> bool
+    ensures planned { IsTrue result ↔ IsPlanned plan.now calls.old }
+    ensures calls { calls.new ≡ next_count calls.old }
+    ensures faults { faults.new ≡ (if result then next_count faults.old else faults.old) }
+    ensures later { faults.old ≤ faults.new }
+{
+    let fails = match calls.checked_add(1) {
+        Some(call) => {
+            *calls = call;
+            plan.contains(call)
+        }
+        None => false,
+    };
+    if fails {
+        *faults = faults.saturating_add(1);
+    }
+    fails
+}
