@@ -1,1 +1,5 @@
 pub mod Cuts
+pub mod LineWords
+pub mod NumberWords
+pub mod Rosters
+pub mod SetupReading

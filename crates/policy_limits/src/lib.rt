@@ -1,10 +1,29 @@
-//! How the plain texts of this project are cut: into lines with their numbers, and a line into its words.
+//! The setup of a run: its parties, who is registered at which desk, and the limits of what a desk may issue.
 //!
-//! A line ends with a line feed or at the end of the text; one carriage return before the line feed is no part of it.
-//! Lines without bytes and lines that begin with `#` are passed over and counted. Words stand between single spaces.
+//! A [`Setup`] keeps in its type what holds of every setup: how many parties there are, that no two of them and no two
+//! registrations are alike, and that days and live limits are within their limits. [`read_setup`] reads it from its lines,
+//! or names the first line that breaks a rule. [`validity`] is how long a certificate is valid (after BSI TR-03139).
 //!
-//! What the words of a line mean is left to those who read them. No call takes memory.
+//! [`lines`] and [`words`] cut a plain text into lines with their numbers and a line into its words; scripts are cut
+//! with them too.
+//!
+//! What a desk does with a registration, and which certificate is its authority's, is left to the layers above.
 #![tactic(auto)]
 
+mod limits;
 pub mod lines;
+pub mod numbers;
+mod party;
+mod registration;
+mod setup;
+mod setup_line;
+mod setup_text;
+#[cfg(test)]
+mod tests;
 pub mod words;
+
+pub use limits::{maximum_days, minimum_days, validity};
+pub use party::{Party, PartyKind, PartyList};
+pub use registration::{First, Registration, RegistrationList};
+pub use setup::Setup;
+pub use setup_text::{SetupRefusal, read_setup};

@@ -1,5 +1,5 @@
 // The words of a line.
-ghost use Rattle.std.specs.Prelude.{◌≡◌, ℕ, ◌<◌, List, ◌∷◌, length, None, Some, MatchOption, IfSome};
+ghost use Rattle.std.specs.Prelude.{◌≡◌, ℕ, ◌<◌, List, [], ◌∷◌, length, None, Some, MatchOption, IfSome};
 ghost use Rattle.std.specs.List.{list_all};
 ghost use Rattle.std.specs.Option.{option_copied};
 ghost use Rattle.eac_base.specs.Text as text;
@@ -53,6 +53,16 @@ pub fn are_words(line: &[u8]) -> bool
             return true;
         };
         rest = after;
+    }
+}
+
+/// The next word, and what is left behind it.
+pub fn next_word(rest: Option<&[u8]>) -> Option<(&[u8], Option<&[u8]>)>
+    ensures { MatchOption result (pieces_left (option_copied rest.entry) ≡ []) (λ next. pieces_left (option_copied rest.entry) ≡ next.0.now ∷ pieces_left (option_copied next.1)) }
+{
+    match rest {
+        Some(line) => Some(cut(line)),
+        None => None,
     }
 }
 

@@ -1,0 +1,70 @@
+// The parties and the registrations of a run.
+ghost use Rattle.std.specs.Prelude.{◌≡◌, [], OnOk, OnErr, IsTrue};
+ghost use Rattle.std.specs.Option.{option_copied};
+ghost use Rattle.policy_limits.specs.Roster as roster;
+ghost use Rattle.policy_limits.specs.Roster.{IsRoster, roster_of};
+
+use crate::party::{Party, PartyList};
+use crate::registration::{Registration, RegistrationList};
+use holder_reference::Holder;
+use std::alloc::Global;
+use std::marker::Model;
+
+/// The parties and the registrations of a run, seen as a `Roster`.
+///
+/// Each has at most 1,000 parties, no two of one holder, and no two registrations of one holder at one desk. The days of
+/// an authority and of a registration are within the limits of the role, and live limits are from 1 to 100.
+#[derive(Debug, Drop)]
+pub struct Setup {
+    pub parties: PartyList,
+    pub registrations: RegistrationList,
+}
+
+impl Model for Setup {
+    ghost use Rattle.policy_limits.specs.Roster.{Roster, IsRoster, roster_of};
+
+    ghost Value = { Roster };
+
+    ghost view = { λ s. roster_of s.parties s.registrations };
+
+    ghost invariant = { λ s. IsRoster (roster_of s.parties s.registrations) };
+}
+
+impl Setup {
+    /// No parties and no registrations.
+    pub(crate) fn new(alloc: Global) -> Setup
+        ensures { result ≡ roster_of [] [] }
+    {
+        Setup {
+            parties: PartyList::new(alloc),
+            registrations: RegistrationList::new(alloc),
+        }
+    }
+
+    /// The party of this number; `None` exactly from the number of parties on.
+    pub fn party(&self, number: u32) -> Option<&Party>
+        ensures found { option_copied result ≡ roster.party self.now number }
+        ensures legal { IsRoster self.now }
+    {
+        self.parties.get(number as usize)
+    }
+
+    /// The number of the party of this holder; `None` exactly where there is none.
+    pub fn number_of(&self, holder: &Holder) -> Option<u32>
+        ensures found { result ≡ roster.number_of self.now holder.now }
+        ensures legal { IsRoster self.now }
+    {
+        match self.parties.place_of(holder) {
+            Some(place) => Some(place as u32),
+            None => None,
+        }
+    }
+
+    /// The registration of this holder at this desk; `None` exactly where there is none.
+    pub fn registration(&self, desk: u32, holder: &Holder) -> Option<&Registration>
+        ensures found { option_copied result ≡ roster.registration self.now desk holder.now }
+        ensures legal { IsRoster self.now }
+    {
+        self.registrations.at_desk(desk, holder)
+    }
+}
