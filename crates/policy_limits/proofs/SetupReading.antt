@@ -1,10 +1,11 @@
 -- The reading of a setup, one line after the other.
-use Rattle.std.proofs.Common.{◌≡◌, ℕ, List, [], ◌∷◌, None, Some, Ok, ap, ◌∙◌}
+use Rattle.std.proofs.Common.{◌≡◌, ℕ, List, [], ◌∷◌, None, Some, Ok, Err, refl, ap, ◌∙◌}
 use Rattle.std.specs.declared.option.Option.{Option}
 use Rattle.std.specs.declared.result.Result.{Result}
 use Rattle.eac_base.specs.Answers.{◌>>=◌, Refuses}
-use Rattle.policy_limits.specs.Roster.{Roster}
-use Rattle.policy_limits.specs.SetupText.{with_line, with_lines}
+use Rattle.eac_base.specs.Text.{numbered_lines}
+use Rattle.policy_limits.specs.Roster.{Roster, roster_of}
+use Rattle.policy_limits.specs.SetupText.{with_line, with_lines, IsFirstFault, FirstIsNamed}
 use Rattle.policy_limits.specs.declared.setup_text.SetupRefusal.{SetupRefusal}
 
 module _ (all : Result Roster SetupRefusal) (before : Roster) (line : ℕ × List ℕ) (lines more : List (ℕ × List ℕ)) (so : all ≡ with_lines before lines) (next : lines ≡ line ∷ more) where
@@ -22,3 +23,27 @@ module _ (all : Result Roster SetupRefusal) (before : Roster) (line : ℕ × Lis
 
 pub all_read : (all : Result Roster SetupRefusal) (before : Roster) (lines : List (ℕ × List ℕ)) → all ≡ with_lines before lines → lines ≡ [] → all ≡ Ok before
 all_read all before lines so none = so ∙ ap (with_lines before) none
+
+-- ---- the first line that breaks a rule
+
+module _ (l : ℕ × List ℕ) (ls : List (ℕ × List ℕ)) (f : SetupRefusal) (start : Roster) where
+  step : (w : Result Roster SetupRefusal) → with_line start l ≡ w → (w >>= λ next. with_lines next ls) ≡ Err f → ((next : Roster) → with_lines next ls ≡ Err f → IsFirstFault next ls f) → IsFirstFault start (l ∷ ls) f
+  step (Ok next) is refused rest =
+      let h = rest next refused in
+      record {
+        front = l ∷ h.front;
+        line = h.line;
+        back = h.back;
+        before = h.before;
+        cut = ap (λ x. l ∷ x) h.cut;
+        fine = ap (λ w. w >>= λ n. with_lines n h.front) is ∙ h.fine;
+        breaks = h.breaks;
+      }
+  step (Err g) is refused rest = record { front = []; line = l; back = ls; before = start; cut = refl; fine = refl; breaks = is ∙ refused }
+
+first_fault : (ls : List (ℕ × List ℕ)) (f : SetupRefusal) (start : Roster) → with_lines start ls ≡ Err f → IsFirstFault start ls f
+first_fault [] f start refused = cc
+first_fault (l ∷ ls) f start refused = step l ls f start (with_line start l) refl refused (first_fault ls f)
+
+pub first_is_named : FirstIsNamed
+first_is_named text f refused = first_fault (numbered_lines text) f (roster_of [] []) refused

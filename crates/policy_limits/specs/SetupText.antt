@@ -30,14 +30,18 @@ rule_of (Limit line) = Some (Limit line)
 rule_of (Twice line) = Some (Twice line)
 rule_of NoMemory = None
 
--- ---- the same as a relation
+-- ---- the first line that breaks a rule
 
--- A line of the text breaks the rule, and the lines before it break none.
-pub record IsFirstFault (text : List ℕ) (refusal : SetupRefusal) : Type 0 where
+-- The line after the front breaks the rule, and the front's lines break none.
+pub record IsFirstFault (start : Roster) (lines : List (ℕ × List ℕ)) (refusal : SetupRefusal) : Type 0 where
   pub front : List (ℕ × List ℕ)
   pub line : ℕ × List ℕ
   pub back : List (ℕ × List ℕ)
   pub before : Roster
-  pub cut : numbered_lines text ≡ front ++ line ∷ back
-  pub fine : with_lines (roster_of [] []) front ≡ Ok before
+  pub cut : lines ≡ front ++ line ∷ back
+  pub fine : with_lines start front ≡ Ok before
   pub breaks : with_line before line ≡ Err refusal
+
+-- A text that is refused is refused for that line.
+abbrev pub FirstIsNamed : Type 0
+FirstIsNamed = (text : List ℕ) (refusal : SetupRefusal) → read_setup text ≡ Err refusal → IsFirstFault (roster_of [] []) (numbered_lines text) refusal

@@ -26,4 +26,4 @@ pub use limits::{maximum_days, minimum_days, validity};
 pub use party::{Party, PartyKind, PartyList};
 pub use registration::{First, Registration, RegistrationList};
 pub use setup::Setup;
-pub use setup_text::{SetupRefusal, read_setup};
+pub use setup_text::{SetupRefusal, read_setup, the_first_line_is_named};

@@ -4,6 +4,7 @@ ghost use Rattle.eac_base.specs.Answers.{Answers, Refuses};
 ghost use Rattle.policy_limits.specs.Roster as roster;
 ghost use Rattle.policy_limits.specs.SetupLine as grammar;
 ghost use Rattle.policy_limits.specs.SetupText as words;
+ghost use Rattle.policy_limits.specs.SetupText.{FirstIsNamed};
 ghost use Rattle.policy_limits.specs.Validity as limits;
 
 use crate::limits::{maximum_days, minimum_days};
@@ -136,3 +137,8 @@ pub fn read_setup(alloc: Global, text: &[u8]) -> Result<Setup, SetupRefusal>
     }
     Ok(setup)
 }
+
+/// A law of refused texts. The function does nothing: it is there for what it ensures.
+pub fn the_first_line_is_named()
+    ensures { FirstIsNamed }
+{}
