@@ -1,6 +1,7 @@
 -- What the code has in its hands, as the definitions speak of it: parts of the input, keys and certificates that lie in
 -- it, answers that may want memory.
-use Rattle.std.specs.Prelude.{◌≡◌, List, ℕ, Option, Some, None, option_map}
+use Rattle.std.specs.Prelude.{◌≡◌, ℕ, ◌+◌, List, length, Option, Some, None, Result, option_map}
+use Rattle.eac_base.specs.Answers.{Answers}
 use Rattle.signature_provider.specs.declared.key.Key.{Key}
 use Rattle.cvc_grammar.specs.declared.piece.Piece.{Piece}
 use Rattle.cvc_grammar.specs.declared.key_view.KeyParts.{KeyParts}
@@ -12,10 +13,18 @@ use Rattle.cvc_grammar.specs.declared.refusal.CvcRefusal.{CvcRefusal}
 use Rattle.cvc_grammar.specs.declared.refusal.ReadCvc.{ReadCvc}
 use Rattle.cvc_grammar.specs.declared.refusal.ReadCvc.TheVariants as reads
 use Rattle.cvc_grammar.specs.Certificate.{IsCert, body_text}
-use Rattle.cvc_grammar.specs.ReadingOrder.{Part}
+use Rattle.cvc_grammar.specs.ReadingOrder.{Part, Step}
 
 abbrev pub part_of : Piece → Part
 part_of p = record { place = p.place; bytes = p.bytes.now }
+
+-- The place behind a part.
+abbrev pub end_of : Piece → ℕ
+end_of p = p.place + length p.bytes.now
+
+-- The answer, seen by its value, is what the reading order says.
+abbrev pub Reads : {X Y : Type 0} → (X → Y) → Result X CvcRefusal → Step Y → Type 0
+Reads value result said = Answers value (λ e. Some e) result said
 
 abbrev pub seen_key : KeyParts → Key
 seen_key k = record { algorithm = k.key.algorithm; domain = k.key.domain.now; point = k.key.point.now; cofactor = k.cofactor.now }

@@ -1,8 +1,7 @@
 // The objects of a body, each with what it holds.
-ghost use Rattle.std.specs.Prelude.{◌≡◌, ◌+◌, ◌<◌, ◌≤◌, ◌^◌, length, Some, IfOk, option_map};
-ghost use Rattle.eac_base.specs.Answers.{Answers};
+ghost use Rattle.std.specs.Prelude.{◌<◌, ◌≤◌, ◌^◌, IfOk, option_map};
 ghost use Rattle.cvc_grammar.specs.ReadingOrder as order;
-ghost use Rattle.cvc_grammar.specs.Views.{part_of, seen_key};
+ghost use Rattle.cvc_grammar.specs.Views.{part_of, end_of, seen_key, Reads};
 
 use crate::CvcRefusal;
 use crate::key_view::{KeyParts, view_key};
@@ -13,9 +12,9 @@ use holder_reference::{Reference, read_reference};
 use tlv_core::Tag;
 
 pub fn profile_in<'a>(part: Piece<'a>) -> Result<Piece<'a>, CvcRefusal>
-    requires { part.place + length part.bytes.now < 2 ^ 32 }
-    ensures exact { Answers (λ o. part_of o) (λ e. Some e) result (order.profile_in (part_of part.entry)) }
-    ensures rest { IfOk result (λ o. o.place + length o.bytes.now ≤ part.entry.place + length part.entry.bytes.now) }
+    requires { end_of part < 2 ^ 32 }
+    ensures exact { Reads (λ o. part_of o) result (order.profile_in (part_of part.entry)) }
+    ensures rest { IfOk result (λ o. end_of o ≤ end_of part.entry) }
 {
     let (content, rest) = expected(0x5f29, part)?;
     if content.bytes != [0x00].as_slice() {
@@ -25,9 +24,9 @@ pub fn profile_in<'a>(part: Piece<'a>) -> Result<Piece<'a>, CvcRefusal>
 }
 
 pub fn reference_in<'a>(tag: Tag, part: Piece<'a>) -> Result<(Reference, Piece<'a>), CvcRefusal>
-    requires { part.place + length part.bytes.now < 2 ^ 32 }
-    ensures exact { Answers (λ o. (o.0, part_of o.1)) (λ e. Some e) result (order.reference_in tag (part_of part.entry)) }
-    ensures rest { IfOk result (λ o. o.1.place + length o.1.bytes.now ≤ part.entry.place + length part.entry.bytes.now) }
+    requires { end_of part < 2 ^ 32 }
+    ensures exact { Reads (λ o. (o.0, part_of o.1)) result (order.reference_in tag (part_of part.entry)) }
+    ensures rest { IfOk result (λ o. end_of o.1 ≤ end_of part.entry) }
 {
     let (content, rest) = expected(tag, part)?;
     match read_reference(content.bytes) {
@@ -37,9 +36,9 @@ pub fn reference_in<'a>(tag: Tag, part: Piece<'a>) -> Result<(Reference, Piece<'
 }
 
 pub fn key_in<'a>(part: Piece<'a>) -> Result<(KeyParts<'a>, Piece<'a>), CvcRefusal>
-    requires { part.place + length part.bytes.now < 2 ^ 32 }
-    ensures exact { Answers (λ o. (seen_key o.0, part_of o.1)) (λ e. Some e) result (order.key_in (part_of part.entry)) }
-    ensures rest { IfOk result (λ o. o.1.place + length o.1.bytes.now ≤ part.entry.place + length part.entry.bytes.now) }
+    requires { end_of part < 2 ^ 32 }
+    ensures exact { Reads (λ o. (seen_key o.0, part_of o.1)) result (order.key_in (part_of part.entry)) }
+    ensures rest { IfOk result (λ o. end_of o.1 ≤ end_of part.entry) }
 {
     let (content, rest) = expected(0x7f49, part)?;
     match view_key(content.bytes) {
@@ -55,9 +54,9 @@ pub fn key_in<'a>(part: Piece<'a>) -> Result<(KeyParts<'a>, Piece<'a>), CvcRefus
 }
 
 pub fn template_in<'a>(part: Piece<'a>) -> Result<(Template, Piece<'a>), CvcRefusal>
-    requires { part.place + length part.bytes.now < 2 ^ 32 }
-    ensures exact { Answers (λ o. (o.0, part_of o.1)) (λ e. Some e) result (order.template_in (part_of part.entry)) }
-    ensures rest { IfOk result (λ o. o.1.place + length o.1.bytes.now ≤ part.entry.place + length part.entry.bytes.now) }
+    requires { end_of part < 2 ^ 32 }
+    ensures exact { Reads (λ o. (o.0, part_of o.1)) result (order.template_in (part_of part.entry)) }
+    ensures rest { IfOk result (λ o. end_of o.1 ≤ end_of part.entry) }
 {
     let (content, rest) = expected(0x7f4c, part)?;
     match read_template(content.bytes) {
@@ -67,9 +66,9 @@ pub fn template_in<'a>(part: Piece<'a>) -> Result<(Template, Piece<'a>), CvcRefu
 }
 
 pub fn date_in<'a>(tag: Tag, part: Piece<'a>) -> Result<(Day, Piece<'a>), CvcRefusal>
-    requires { part.place + length part.bytes.now < 2 ^ 32 }
-    ensures exact { Answers (λ o. (o.0, part_of o.1)) (λ e. Some e) result (order.date_in tag (part_of part.entry)) }
-    ensures rest { IfOk result (λ o. o.1.place + length o.1.bytes.now ≤ part.entry.place + length part.entry.bytes.now) }
+    requires { end_of part < 2 ^ 32 }
+    ensures exact { Reads (λ o. (o.0, part_of o.1)) result (order.date_in tag (part_of part.entry)) }
+    ensures rest { IfOk result (λ o. end_of o.1 ≤ end_of part.entry) }
 {
     let (content, rest) = expected(tag, part)?;
     match read_date(content.bytes) {
@@ -79,8 +78,8 @@ pub fn date_in<'a>(tag: Tag, part: Piece<'a>) -> Result<(Day, Piece<'a>), CvcRef
 }
 
 pub fn extensions_in<'a>(part: Piece<'a>) -> Result<Option<&'a [u8]>, CvcRefusal>
-    requires { part.place + length part.bytes.now < 2 ^ 32 }
-    ensures { Answers (λ o. option_map (λ e. e.now) o) (λ e. Some e) result (order.extensions_in (part_of part.entry)) }
+    requires { end_of part < 2 ^ 32 }
+    ensures { Reads (λ o. option_map (λ e. e.now) o) result (order.extensions_in (part_of part.entry)) }
 {
     if part.bytes.is_empty() {
         return Ok(None);

@@ -1,9 +1,8 @@
 // Certificates as they lie in an input.
-ghost use Rattle.std.specs.Prelude.{◌≡◌, ◌+◌, ◌<◌, ◌^◌, length, Some, IfOk, IsOkAnd, option_map};
-ghost use Rattle.eac_base.specs.Answers.{Answers};
+ghost use Rattle.std.specs.Prelude.{◌≡◌, ◌<◌, ◌^◌, IfOk, IsOkAnd};
 ghost use Rattle.cvc_grammar.specs.ReadingOrder as order;
 ghost use Rattle.cvc_grammar.specs.Certificate.{body_text, IsCert};
-ghost use Rattle.cvc_grammar.specs.Views.{part_of, seen_body, seen_cert, IsViewOf};
+ghost use Rattle.cvc_grammar.specs.Views.{part_of, end_of, seen_body, seen_cert, IsViewOf, Reads};
 ghost use Rattle.cvc_grammar.specs.declared.certificate.Cert.{Cert};
 
 use crate::body_fields::{date_in, extensions_in, key_in, profile_in, reference_in, template_in};
@@ -27,9 +26,10 @@ struct BodyView<'a> {
     extensions: Option<&'a [u8]>,
 }
 
+// A `match` stands where `?` has no proof: the value holds a reference, a template or a day beside a part of the input.
 fn cert_body_in<'a>(part: Piece<'a>) -> Result<BodyView<'a>, CvcRefusal>
-    requires { part.place + length part.bytes.now < 2 ^ 32 }
-    ensures { Answers seen_body (λ e. Some e) result (order.cert_body_in (part_of part.entry)) }
+    requires { end_of part < 2 ^ 32 }
+    ensures { Reads seen_body result (order.cert_body_in (part_of part.entry)) }
 {
     let rest = profile_in(part)?;
     let (authority, rest) = match reference_in(0x42, rest) {
@@ -67,8 +67,8 @@ fn cert_body_in<'a>(part: Piece<'a>) -> Result<BodyView<'a>, CvcRefusal>
 
 /// The body and the signature, and the whole body.
 fn signed_body_in<'a>(part: Piece<'a>) -> Result<(BodyView<'a>, &'a [u8], &'a [u8]), CvcRefusal>
-    requires { part.place + length part.bytes.now < 2 ^ 32 }
-    ensures exact { Answers (λ o. record { body = seen_body o.0; signature = o.2.now }) (λ e. Some e) result (order.signed_cert_in (part_of part.entry)) }
+    requires { end_of part < 2 ^ 32 }
+    ensures exact { Reads (λ o. record { body = seen_body o.0; signature = o.2.now }) result (order.signed_cert_in (part_of part.entry)) }
     ensures whole { IfOk result (λ o. o.1.now ≡ body_text (seen_body o.0)) }
 {
     let (body, whole, signature) = signed_in(part)?;
@@ -80,7 +80,7 @@ fn signed_body_in<'a>(part: Piece<'a>) -> Result<(BodyView<'a>, &'a [u8], &'a [u
 }
 
 fn whole_cert(bytes: &[u8]) -> Result<CertView, CvcRefusal>
-    ensures exact { Answers seen_cert (λ e. Some e) result (order.read_cert bytes.now) }
+    ensures exact { Reads seen_cert result (order.read_cert bytes.now) }
     ensures whole { IfOk result (λ v. v.whole.now ≡ bytes.now) }
     ensures body { IfOk result (λ v. v.body.now ≡ body_text (seen_cert v).body) }
 {
@@ -115,7 +115,7 @@ fn whole_cert(bytes: &[u8]) -> Result<CertView, CvcRefusal>
 /// (`Key`), 5F20 (`Reference`), 7F4C (`Template`), 5F25 and 5F24 (`Date`) and, where bytes are left, 65 with nothing
 /// behind it (`Trailing`). An object that can't be read or has another tag is `Object`.
 pub fn view_cert(bytes: &[u8]) -> Result<CertView, CvcRefusal>
-    ensures exact { Answers seen_cert (λ e. Some e) result (order.read_cert bytes.now) }
+    ensures exact { Reads seen_cert result (order.read_cert bytes.now) }
     ensures found { IfOk result (λ v. IsViewOf bytes.now v) }
     ensures only { (c : Cert) → IsCert c bytes.now → IsOkAnd result (λ v. seen_cert v ≡ c) }
 {

@@ -1,9 +1,8 @@
 // Parts of the input, each with its place, and the objects in them.
-ghost use Rattle.std.specs.Prelude.{◌≡◌, ◌+◌, ◌<◌, ◌≤◌, ◌^◌, length, Some, IfOk};
-ghost use Rattle.eac_base.specs.Answers.{Answers};
+ghost use Rattle.std.specs.Prelude.{◌<◌, ◌≤◌, ◌^◌, IfOk};
 ghost use Rattle.eac_base.specs.Bytes.{AreBytes};
 ghost use Rattle.cvc_grammar.specs.ReadingOrder as order;
-ghost use Rattle.cvc_grammar.specs.Views.{part_of};
+ghost use Rattle.cvc_grammar.specs.Views.{part_of, end_of, Reads};
 
 use crate::{CvcRefusal, ObjectFault};
 use tlv_core::{Tag, next_object};
@@ -17,10 +16,10 @@ pub struct Piece<'a> {
 
 /// The tag, the content and the rest.
 pub fn object_in<'a>(part: Piece<'a>) -> Result<(Tag, Piece<'a>, Piece<'a>), CvcRefusal>
-    requires { part.place + length part.bytes.now < 2 ^ 32 }
-    ensures exact { Answers (λ o. record { tag = o.0; content = part_of o.1; rest = part_of o.2 }) (λ e. Some e) result (order.object_in (part_of part.entry)) }
-    ensures content { IfOk result (λ o. o.1.place + length o.1.bytes.now ≤ part.entry.place + length part.entry.bytes.now) }
-    ensures rest { IfOk result (λ o. o.2.place + length o.2.bytes.now ≤ part.entry.place + length part.entry.bytes.now) }
+    requires { end_of part < 2 ^ 32 }
+    ensures exact { Reads (λ o. record { tag = o.0; content = part_of o.1; rest = part_of o.2 }) result (order.object_in (part_of part.entry)) }
+    ensures content { IfOk result (λ o. end_of o.1 ≤ end_of part.entry) }
+    ensures rest { IfOk result (λ o. end_of o.2 ≤ end_of part.entry) }
 {
     match next_object(part.bytes) {
         Err(e) => Err(CvcRefusal::Object {
@@ -46,10 +45,10 @@ pub fn object_in<'a>(part: Piece<'a>) -> Result<(Tag, Piece<'a>, Piece<'a>), Cvc
 
 /// The content of the object at the front, which has to have this tag, and the rest.
 pub fn expected<'a>(tag: Tag, part: Piece<'a>) -> Result<(Piece<'a>, Piece<'a>), CvcRefusal>
-    requires { part.place + length part.bytes.now < 2 ^ 32 }
-    ensures exact { Answers (λ o. record { tag = tag; content = part_of o.0; rest = part_of o.1 }) (λ e. Some e) result (order.expected tag (part_of part.entry)) }
-    ensures content { IfOk result (λ o. o.0.place + length o.0.bytes.now ≤ part.entry.place + length part.entry.bytes.now) }
-    ensures rest { IfOk result (λ o. o.1.place + length o.1.bytes.now ≤ part.entry.place + length part.entry.bytes.now) }
+    requires { end_of part < 2 ^ 32 }
+    ensures exact { Reads (λ o. record { tag = tag; content = part_of o.0; rest = part_of o.1 }) result (order.expected tag (part_of part.entry)) }
+    ensures content { IfOk result (λ o. end_of o.0 ≤ end_of part.entry) }
+    ensures rest { IfOk result (λ o. end_of o.1 ≤ end_of part.entry) }
 {
     let (found, content, rest) = object_in(part)?;
     if found != tag {
@@ -62,7 +61,7 @@ pub fn expected<'a>(tag: Tag, part: Piece<'a>) -> Result<(Piece<'a>, Piece<'a>),
 }
 
 pub fn nothing_in(part: Piece) -> Result<(), CvcRefusal>
-    ensures { Answers (λ _. tt) (λ e. Some e) result (order.nothing_in (part_of part.entry)) }
+    ensures { Reads (λ _. tt) result (order.nothing_in (part_of part.entry)) }
 {
     match part.bytes {
         [] => Ok(()),

@@ -60,6 +60,8 @@ impl CvcRefusal {
 /// Why no owned copy was read.
 #[derive(Clone, Copy, Debug, PartialEq, Eq)]
 pub enum ReadCvc {
+    /// The input is no certificate or request.
     Refused(CvcRefusal),
+    /// Memory is wanting for the copy.
     NoMemory,
 }

@@ -1,12 +1,11 @@
 // Requests as they lie in an input.
-ghost use Rattle.std.specs.Prelude.{◌≡◌, ◌+◌, ◌<◌, ◌≤◌, ◌^◌, ◌&&◌, ◌||◌, not, Option, length, Some, None, IfOk, IsTrue};
-ghost use Rattle.eac_base.specs.Answers.{Answers};
+ghost use Rattle.std.specs.Prelude.{◌≡◌, ◌<◌, ◌≤◌, ◌^◌, ◌&&◌, ◌||◌, not, Option, None, IfOk, IsTrue};
 ghost use Rattle.signature_provider.specs.Key as keys;
 ghost use Rattle.cvc_grammar.specs.ReadingOrder as certs;
 ghost use Rattle.cvc_grammar.specs.RequestOrder as order;
 ghost use Rattle.cvc_grammar.specs.Request as texts;
 ghost use Rattle.cvc_grammar.specs.declared.request.Outer.{Outer};
-ghost use Rattle.cvc_grammar.specs.Views.{part_of, seen_key};
+ghost use Rattle.cvc_grammar.specs.Views.{part_of, end_of, seen_key, Reads};
 ghost use Rattle.cvc_grammar.specs.RequestViews.{seen_request_body, seen_request};
 
 use crate::body_fields::{extensions_in, key_in, profile_in, reference_in};
@@ -42,9 +41,9 @@ pub struct RequestView<'a> {
 
 /// The authority's reference, where the object at the front has its tag, and the rest.
 fn authority_in<'a>(part: Piece<'a>) -> Result<(Option<Reference>, Piece<'a>), CvcRefusal>
-    requires { part.place + length part.bytes.now < 2 ^ 32 }
-    ensures exact { Answers (λ o. (o.0, part_of o.1)) (λ e. Some e) result (order.authority_in (part_of part.entry)) }
-    ensures rest { IfOk result (λ o. o.1.place + length o.1.bytes.now ≤ part.entry.place + length part.entry.bytes.now) }
+    requires { end_of part < 2 ^ 32 }
+    ensures exact { Reads (λ o. (o.0, part_of o.1)) result (order.authority_in (part_of part.entry)) }
+    ensures rest { IfOk result (λ o. end_of o.1 ≤ end_of part.entry) }
 {
     let (tag, _, _) = object_in(part)?;
     if tag != 0x42 {
@@ -58,10 +57,10 @@ fn authority_in<'a>(part: Piece<'a>) -> Result<(Option<Reference>, Piece<'a>), C
 
 /// The key, with what is known of each key that was read.
 fn legal_key_in<'a>(part: Piece<'a>) -> Result<(KeyParts<'a>, Piece<'a>), CvcRefusal>
-    requires { part.place + length part.bytes.now < 2 ^ 32 }
-    ensures exact { Answers (λ o. (seen_key o.0, part_of o.1)) (λ e. Some e) result (certs.key_in (part_of part.entry)) }
+    requires { end_of part < 2 ^ 32 }
+    ensures exact { Reads (λ o. (seen_key o.0, part_of o.1)) result (certs.key_in (part_of part.entry)) }
     ensures legal { IfOk result (λ o. IsTrue (keys.is_key (seen_key o.0) && keys.key_fits (seen_key o.0))) }
-    ensures rest { IfOk result (λ o. o.1.place + length o.1.bytes.now ≤ part.entry.place + length part.entry.bytes.now) }
+    ensures rest { IfOk result (λ o. end_of o.1 ≤ end_of part.entry) }
 {
     are_bytes(part.bytes);
     key_in(part)
@@ -81,9 +80,9 @@ fn is_request_key(parts: KeyParts) -> bool
 }
 
 fn request_key_in<'a>(part: Piece<'a>) -> Result<(KeyParts<'a>, Piece<'a>), CvcRefusal>
-    requires { part.place + length part.bytes.now < 2 ^ 32 }
-    ensures exact { Answers (λ o. (seen_key o.0, part_of o.1)) (λ e. Some e) result (order.request_key_in (part_of part.entry)) }
-    ensures rest { IfOk result (λ o. o.1.place + length o.1.bytes.now ≤ part.entry.place + length part.entry.bytes.now) }
+    requires { end_of part < 2 ^ 32 }
+    ensures exact { Reads (λ o. (seen_key o.0, part_of o.1)) result (order.request_key_in (part_of part.entry)) }
+    ensures rest { IfOk result (λ o. end_of o.1 ≤ end_of part.entry) }
 {
     let (key, rest) = legal_key_in(part)?;
     if !is_request_key(key) {
@@ -92,9 +91,10 @@ fn request_key_in<'a>(part: Piece<'a>) -> Result<(KeyParts<'a>, Piece<'a>), CvcR
     Ok((key, rest))
 }
 
+// A `match` stands where `?` has no proof: the value holds a reference beside a part of the input.
 fn request_body_in<'a>(part: Piece<'a>) -> Result<RequestBodyView<'a>, CvcRefusal>
-    requires { part.place + length part.bytes.now < 2 ^ 32 }
-    ensures { Answers seen_request_body (λ e. Some e) result (order.request_body_in (part_of part.entry)) }
+    requires { end_of part < 2 ^ 32 }
+    ensures { Reads seen_request_body result (order.request_body_in (part_of part.entry)) }
 {
     let rest = profile_in(part)?;
     let (authority, rest) = match authority_in(rest) {
@@ -117,8 +117,8 @@ fn request_body_in<'a>(part: Piece<'a>) -> Result<RequestBodyView<'a>, CvcRefusa
 
 /// The body and the inner signature, whatever stands around them.
 fn bare_in<'a>(part: Piece<'a>) -> Result<(RequestBodyView<'a>, &'a [u8]), CvcRefusal>
-    requires { part.place + length part.bytes.now < 2 ^ 32 }
-    ensures { (outer : Option Outer) → Answers (λ o. record { body = seen_request_body o.0; inner = o.1.now; outer = outer }) (λ e. Some e) result (order.request_in (part_of part.entry) outer) }
+    requires { end_of part < 2 ^ 32 }
+    ensures { (outer : Option Outer) → Reads (λ o. record { body = seen_request_body o.0; inner = o.1.now; outer = outer }) result (order.request_in (part_of part.entry) outer) }
 {
     let (body, _, inner) = signed_in(part)?;
     match request_body_in(body) {
@@ -128,8 +128,8 @@ fn bare_in<'a>(part: Piece<'a>) -> Result<(RequestBodyView<'a>, &'a [u8]), CvcRe
 }
 
 fn plain_in<'a>(part: Piece<'a>) -> Result<RequestView<'a>, CvcRefusal>
-    requires { part.place + length part.bytes.now < 2 ^ 32 }
-    ensures { Answers seen_request (λ e. Some e) result (order.request_in (part_of part.entry) None) }
+    requires { end_of part < 2 ^ 32 }
+    ensures { Reads seen_request result (order.request_in (part_of part.entry) None) }
 {
     match bare_in(part) {
         Ok((body, inner)) => Ok(RequestView {
@@ -142,8 +142,8 @@ fn plain_in<'a>(part: Piece<'a>) -> Result<RequestView<'a>, CvcRefusal>
 }
 
 fn authenticated_in<'a>(part: Piece<'a>) -> Result<RequestView<'a>, CvcRefusal>
-    requires { part.place + length part.bytes.now < 2 ^ 32 }
-    ensures { Answers seen_request (λ e. Some e) result (order.authenticated_in (part_of part.entry)) }
+    requires { end_of part < 2 ^ 32 }
+    ensures { Reads seen_request result (order.authenticated_in (part_of part.entry)) }
 {
     let (bare, rest) = expected(0x7f21, part)?;
     let (reference, rest) = match reference_in(0x42, rest) {
@@ -167,7 +167,7 @@ fn authenticated_in<'a>(part: Piece<'a>) -> Result<RequestView<'a>, CvcRefusal>
 
 /// The request as it lies in the input. `read_request` says in which order it is refused.
 pub fn view_request(bytes: &[u8]) -> Result<RequestView, CvcRefusal>
-    ensures { Answers seen_request (λ e. Some e) result (order.read_request bytes.now) }
+    ensures { Reads seen_request result (order.read_request bytes.now) }
 {
     if 2304 < bytes.len() {
         return Err(CvcRefusal::TooLong);

@@ -1,18 +1,17 @@
 // A body object and the signature behind it.
-ghost use Rattle.std.specs.Prelude.{◌≡◌, ◌+◌, ◌<◌, ◌≤◌, ◌^◌, length, Some, IfOk};
-ghost use Rattle.eac_base.specs.Answers.{Answers};
+ghost use Rattle.std.specs.Prelude.{◌≡◌, ◌<◌, ◌≤◌, ◌^◌, IfOk};
 ghost use Rattle.tlv_core.specs.Object.{object};
 ghost use Rattle.cvc_grammar.specs.ReadingOrder as order;
-ghost use Rattle.cvc_grammar.specs.Views.{part_of};
+ghost use Rattle.cvc_grammar.specs.Views.{part_of, end_of, Reads};
 
 use crate::piece::{Piece, are_bytes, expected, nothing_in};
 use crate::{CvcRefusal, ObjectFault};
 
 /// The signature and the rest.
 pub fn signature_in<'a>(part: Piece<'a>) -> Result<(&'a [u8], Piece<'a>), CvcRefusal>
-    requires { part.place + length part.bytes.now < 2 ^ 32 }
-    ensures exact { Answers (λ o. (o.0.now, part_of o.1)) (λ e. Some e) result (order.signature_in (part_of part.entry)) }
-    ensures rest { IfOk result (λ o. o.1.place + length o.1.bytes.now ≤ part.entry.place + length part.entry.bytes.now) }
+    requires { end_of part < 2 ^ 32 }
+    ensures exact { Reads (λ o. (o.0.now, part_of o.1)) result (order.signature_in (part_of part.entry)) }
+    ensures rest { IfOk result (λ o. end_of o.1 ≤ end_of part.entry) }
 {
     let (content, rest) = expected(0x5f37, part)?;
     let size = content.bytes.len();
@@ -27,11 +26,11 @@ pub fn signature_in<'a>(part: Piece<'a>) -> Result<(&'a [u8], Piece<'a>), CvcRef
 
 /// The body's content, the whole body object and the rest.
 fn body_object<'a>(part: Piece<'a>) -> Result<(Piece<'a>, &'a [u8], Piece<'a>), CvcRefusal>
-    requires { part.place + length part.bytes.now < 2 ^ 32 }
-    ensures exact { Answers (λ o. record { tag = 0x7f4e; content = part_of o.0; rest = part_of o.2 }) (λ e. Some e) result (order.expected 0x7f4e (part_of part.entry)) }
+    requires { end_of part < 2 ^ 32 }
+    ensures exact { Reads (λ o. record { tag = 0x7f4e; content = part_of o.0; rest = part_of o.2 }) result (order.expected 0x7f4e (part_of part.entry)) }
     ensures whole { IfOk result (λ o. o.1.now ≡ object 0x7f4e o.0.bytes.now) }
-    ensures content { IfOk result (λ o. o.0.place + length o.0.bytes.now ≤ part.entry.place + length part.entry.bytes.now) }
-    ensures rest { IfOk result (λ o. o.2.place + length o.2.bytes.now ≤ part.entry.place + length part.entry.bytes.now) }
+    ensures content { IfOk result (λ o. end_of o.0 ≤ end_of part.entry) }
+    ensures rest { IfOk result (λ o. end_of o.2 ≤ end_of part.entry) }
 {
     let (content, rest) = expected(0x7f4e, part)?;
     are_bytes(part.bytes);
@@ -41,10 +40,10 @@ fn body_object<'a>(part: Piece<'a>) -> Result<(Piece<'a>, &'a [u8], Piece<'a>), 
 
 /// The body's content, the whole body object and the signature, with nothing behind it.
 pub fn signed_in<'a>(part: Piece<'a>) -> Result<(Piece<'a>, &'a [u8], &'a [u8]), CvcRefusal>
-    requires { part.place + length part.bytes.now < 2 ^ 32 }
-    ensures exact { Answers (λ o. (part_of o.0, o.2.now)) (λ e. Some e) result (order.signed_in (part_of part.entry)) }
+    requires { end_of part < 2 ^ 32 }
+    ensures exact { Reads (λ o. (part_of o.0, o.2.now)) result (order.signed_in (part_of part.entry)) }
     ensures whole { IfOk result (λ o. o.1.now ≡ object 0x7f4e o.0.bytes.now) }
-    ensures content { IfOk result (λ o. o.0.place + length o.0.bytes.now ≤ part.entry.place + length part.entry.bytes.now) }
+    ensures content { IfOk result (λ o. end_of o.0 ≤ end_of part.entry) }
 {
     let (body, whole, rest) = body_object(part)?;
     let (signature, rest) = signature_in(rest)?;
