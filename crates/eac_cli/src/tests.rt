@@ -85,8 +85,18 @@ fn run(alloc: Global, script: &[u8]) -> Result<(Report, Octets), NoMemory> {
 #[test]
 fn scripts_have_these_journals(rt: HostRuntime) -> Result<(), Fail> {
     let alloc = rt.alloc();
-    let table: [(&[u8], u64, &[u8]); 5] = [
+    let table: [(&[u8], u64, &[u8]); 7] = [
         (FIRST, 2, b"2: issued DEDVBUND00001 240101\n"),
+        (
+            b"day 240101\nask DEDVBUND00001 0102\nday 240102\nask DEDVBUND00001 0102\n",
+            4,
+            b"2: issued DEDVBUND00001 240101\n4: kept DEDVBUND00001 240101\n",
+        ),
+        (
+            b"day 240101\nask DEDVBUND00001 0102\nask DEDVBUND00001 0103\n",
+            3,
+            b"2: issued DEDVBUND00001 240101\n3: refused 2\n",
+        ),
         (REPEATED, 5, REPEATED_JOURNAL),
         (b"", 0, b""),
         (
