@@ -8,7 +8,7 @@ use Rattle.eac_base.specs.Answers.{Answers, refused_as}
 use Rattle.eac_base.proofs.EqualBytes.{bytes_eq-true}
 use Rattle.tlv_core.specs.Object.{object, tag_bytes, length_bytes, First, first_object}
 use Rattle.tlv_core.proofs.Objects.{reads_what_stands}
-use Rattle.tlv_core.proofs.Steps.{bind_ok, unless_ok, as_ok, ok_is, empty_is, AreBytes-front, AreBytes-back}
+use Rattle.eac_base.proofs.Steps.{bind_ok, unless_ok, as_ok, ok_is, empty_is, AreBytes-front, AreBytes-back}
 use Rattle.chat_rights.specs.declared.Kind.{Kind}
 use Rattle.chat_rights.specs.declared.Kind.TheVariants.{Inspection}
 use Rattle.chat_rights.specs.declared.Role.{Role}

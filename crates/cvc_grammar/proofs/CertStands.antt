@@ -19,7 +19,7 @@ use Rattle.cvc_grammar.specs.Certificate.{profile_object, extensions_text, body_
 use Rattle.cvc_grammar.specs.ReadingOrder.{Part, Found, expected, profile_in, reference_in, key_in, template_in, date_in, extensions_in, signature_in, cert_body_in, signed_in, whole}
 use Rattle.cvc_grammar.specs.Laws.{WriteAfterRead}
 use Rattle.cvc_grammar.proofs.CertAgain.{regrouped}
-use Rattle.tlv_core.proofs.Steps.{chosen, empty_is, bind_ok, unless_ok, ok_is}
+use Rattle.eac_base.proofs.Steps.{chosen, empty_is, bind_ok, unless_ok, ok_is}
 use Rattle.cvc_grammar.proofs.Stood.{Stood, stood}
 use Rattle.cvc_grammar.proofs.FieldsStand.{ReadThere, there_of, reference_stands, date_stands, template_there}
 use Rattle.cvc_grammar.proofs.KeyStands.{key_stands}

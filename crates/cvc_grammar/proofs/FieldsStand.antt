@@ -16,7 +16,7 @@ use Rattle.cv_dates.specs.Calendar.{date_of, read_date, last_day}
 use Rattle.cv_dates.proofs.DateLaws.{read_is_the_text}
 use Rattle.cvc_grammar.specs.ReadingOrder.{Part, Found, expected, reference_in, date_in, template_in}
 use Rattle.cvc_grammar.proofs.KeyAgain.{and_both}
-use Rattle.tlv_core.proofs.Steps.{bind_ok, as_ok, ok_is}
+use Rattle.eac_base.proofs.Steps.{bind_ok, as_ok, ok_is}
 use Rattle.cvc_grammar.proofs.Stood.{Stood, stood}
 
 legal_along : (c r : List ℕ) → c ≡ r → IsTrue (is_reference c) → IsTrue (is_reference r)

@@ -7,7 +7,7 @@ use Rattle.tlv_core.specs.declared.TlvRefusal.{TlvRefusal}
 use Rattle.tlv_core.specs.Object.{object, First, first_object, after_objects}
 use Rattle.tlv_core.proofs.Objects.{object_again}
 use Rattle.tlv_core.proofs.More.{objects_then}
-use Rattle.tlv_core.proofs.Steps.{empty_is}
+use Rattle.eac_base.proofs.Steps.{empty_is}
 use Rattle.signature_provider.specs.declared.key.Algorithm.{Algorithm}
 use Rattle.signature_provider.specs.declared.key.Key.{Key}
 use Rattle.signature_provider.specs.Key.{is_key, is_algorithm, is_elliptic, is_domain, is_cofactor, is_rsa_point, key_values, key_content, algorithm_identifier, domain_tags}

@@ -14,7 +14,7 @@ use Rattle.signature_provider.specs.declared.key.Key.{Key}
 use Rattle.signature_provider.specs.Key.{is_key, is_elliptic, key_values, key_content, algorithm_identifier, domain_tags}
 use Rattle.cvc_grammar.specs.KeyObject.{read_key, key_after, spelt_key, spelt_algorithm, elliptic_with, elliptic_after, if_key}
 use Rattle.cvc_grammar.proofs.KeyAgain.{and_both}
-use Rattle.tlv_core.proofs.Steps.{chosen, AreBytes-back}
+use Rattle.eac_base.proofs.Steps.{chosen, AreBytes-back}
 use Rattle.cvc_grammar.proofs.Stood.{along}
 
 some_is : {A : Type 0} (x y : A) → (let o : Option A = Some x in o) ≡ Some y → x ≡ y

@@ -3,7 +3,7 @@ use Rattle.std.proofs.Common.{◌≡◌, ℕ, Bool, true, refl, cond, ◌&&◌, 
 use Rattle.std.specs.Str.{bytes_eq}
 use Rattle.tlv_core.specs.declared.TlvRefusal.{TlvRefusal}
 use Rattle.tlv_core.specs.Object.{First, first_object}
-use Rattle.tlv_core.proofs.Steps.{chosen}
+use Rattle.eac_base.proofs.Steps.{chosen}
 use Rattle.signature_provider.specs.declared.key.Algorithm.{Algorithm}
 use Rattle.signature_provider.specs.declared.key.Key.{Key}
 use Rattle.signature_provider.specs.Key.{algorithm_identifier}

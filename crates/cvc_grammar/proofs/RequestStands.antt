@@ -6,7 +6,7 @@ use Rattle.std.proofs.lemmas.Bool.{leb-true, eqb-true}
 use Rattle.eac_base.specs.Bytes.{AreBytes, is_empty}
 use Rattle.eac_base.specs.Answers.{◌>>=◌, refused_as}
 use Rattle.tlv_core.specs.Object.{object, first_object}
-use Rattle.tlv_core.proofs.Steps.{chosen, empty_is, bind_ok, unless_ok, as_ok, ok_is}
+use Rattle.eac_base.proofs.Steps.{chosen, empty_is, bind_ok, unless_ok, as_ok, ok_is}
 use Rattle.holder_reference.specs.Reference.{is_reference}
 use Rattle.signature_provider.specs.declared.key.Key.{Key}
 use Rattle.signature_provider.specs.Key.{key_content, key_object}

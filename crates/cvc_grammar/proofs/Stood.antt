@@ -6,7 +6,7 @@ use Rattle.eac_base.specs.Bytes.{AreBytes}
 use Rattle.eac_base.specs.Answers.{refused_as}
 use Rattle.tlv_core.specs.Object.{object, tag_bytes, length_bytes, First, first_object}
 use Rattle.tlv_core.proofs.Objects.{reads_what_stands}
-use Rattle.tlv_core.proofs.Steps.{bind_ok, unless_ok, as_ok, ok_is, AreBytes-front, AreBytes-back}
+use Rattle.eac_base.proofs.Steps.{bind_ok, unless_ok, as_ok, ok_is, AreBytes-front, AreBytes-back}
 use Rattle.cvc_grammar.specs.ReadingOrder.{Part, Found, found_in, object_in, expected}
 
 -- What a part is, where an object of this tag was read at its front.

@@ -12,7 +12,7 @@ use Rattle.cvc_grammar.specs.Certificate.{body_text, IsCert}
 use Rattle.cvc_grammar.specs.Views.{seen_cert, refused_cvc, IsViewOf}
 use Rattle.cvc_grammar.specs.declared.certificate.Cert.{Cert}
 use Rattle.cvc_grammar.specs.declared.refusal.ReadCvc.{ReadCvc}
-use Rattle.tlv_core.proofs.Steps.{ok_is}
+use Rattle.eac_base.proofs.Steps.{ok_is}
 use Rattle.cvc_grammar.proofs.CertAgain.{read_after_write}
 use Rattle.cvc_grammar.proofs.Stood.{stood}
 use Rattle.cvc_grammar.proofs.CertStands.{write_after_read}

@@ -7,9 +7,8 @@ ghost use Rattle.cvc_grammar.specs.Views.{seen_key, seen_cert, refused_cvc};
 ghost use Rattle.cvc_grammar.specs.declared.certificate.Cert.{Cert};
 
 use crate::key_view::KeyParts;
-use crate::piece::are_bytes;
 use crate::{Cert, CertBody, CertView, ReadCvc, view_cert};
-use eac_base::{NoMemory, Octets};
+use eac_base::{NoMemory, Octets, are_bytes};
 use signature_provider::Key;
 use std::alloc::Global;
 

@@ -7,11 +7,12 @@ ghost use Rattle.cvc_grammar.specs.declared.certificate.Cert.{Cert};
 
 use crate::body_fields::{date_in, extensions_in, key_in, profile_in, reference_in, template_in};
 use crate::key_view::KeyParts;
-use crate::piece::{Piece, are_bytes, expected, nothing_in};
+use crate::piece::{Piece, expected, nothing_in};
 use crate::signed::signed_in;
 use crate::{CertView, CvcRefusal};
 use chat_rights::Template;
 use cv_dates::Day;
+use eac_base::are_bytes;
 use holder_reference::Reference;
 
 /// A body as it lies in an input.

@@ -1,6 +1,5 @@
 // Parts of the input, each with its place, and the objects in them.
 ghost use Rattle.std.specs.Prelude.{◌<◌, ◌≤◌, ◌^◌, IfOk};
-ghost use Rattle.eac_base.specs.Bytes.{AreBytes};
 ghost use Rattle.cvc_grammar.specs.ReadingOrder as order;
 ghost use Rattle.cvc_grammar.specs.Views.{part_of, end_of, Reads};
 
@@ -68,8 +67,3 @@ pub fn nothing_in(part: Piece) -> Result<(), CvcRefusal>
         [_, ..] => Err(CvcRefusal::Trailing),
     }
 }
-
-/// For proofs: each item of a slice of bytes is one.
-pub fn are_bytes(bytes: &[u8])
-    ensures { AreBytes bytes.now }
-{}

@@ -8,10 +8,9 @@ ghost use Rattle.cvc_grammar.specs.RequestViews.{seen_outer, seen_request};
 ghost use Rattle.cvc_grammar.specs.declared.request.Request.{Request};
 
 use crate::cert_copy::{own_extensions, own_key};
-use crate::piece::are_bytes;
 use crate::request_view::{OuterView, RequestView, view_request};
 use crate::{Outer, ReadCvc, Request, RequestBody};
-use eac_base::{NoMemory, Octets};
+use eac_base::{NoMemory, Octets, are_bytes};
 use std::alloc::Global;
 
 fn own_outer(alloc: Global, outer: &Option<OuterView>) -> Result<Option<Outer>, NoMemory>

@@ -10,9 +10,10 @@ ghost use Rattle.cvc_grammar.specs.RequestViews.{seen_request_body, seen_request
 
 use crate::body_fields::{extensions_in, key_in, profile_in, reference_in};
 use crate::key_view::KeyParts;
-use crate::piece::{Piece, are_bytes, expected, nothing_in, object_in};
+use crate::piece::{Piece, expected, nothing_in, object_in};
 use crate::signed::{signature_in, signed_in};
 use crate::{CvcRefusal, ObjectFault};
+use eac_base::are_bytes;
 use holder_reference::Reference;
 
 /// A request's body as it lies in an input.

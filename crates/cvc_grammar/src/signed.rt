@@ -4,8 +4,9 @@ ghost use Rattle.tlv_core.specs.Object.{object};
 ghost use Rattle.cvc_grammar.specs.ReadingOrder as order;
 ghost use Rattle.cvc_grammar.specs.Views.{part_of, end_of, Reads};
 
-use crate::piece::{Piece, are_bytes, expected, nothing_in};
+use crate::piece::{Piece, expected, nothing_in};
 use crate::{CvcRefusal, ObjectFault};
+use eac_base::are_bytes;
 
 /// The signature and the rest.
 pub fn signature_in<'a>(part: Piece<'a>) -> Result<(&'a [u8], Piece<'a>), CvcRefusal>

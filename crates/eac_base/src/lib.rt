@@ -12,6 +12,7 @@
 #![tactic(auto)]
 
 mod acks;
+mod byte_lists;
 mod memory_sink;
 mod memory_source;
 mod octets;
@@ -21,14 +22,13 @@ mod std_streams;
 #[cfg(test)]
 mod tests;
 mod whole;
-mod words;
 
 pub use acks::{Ack, Acks};
+pub use byte_lists::{ByteLists, Words};
 pub use memory_sink::MemorySink;
 pub use memory_source::MemorySource;
-pub use octets::{Octets, is_same};
+pub use octets::{Octets, are_bytes, is_same};
 pub use outside::{Failed, NoMemory, ReadRefusal, Sink, Source};
-pub use plan::FailPlan;
+pub use plan::{FailPlan, counted};
 pub use std_streams::{StdSink, StdSource};
 pub use whole::{read_all, write_all};
-pub use words::Words;

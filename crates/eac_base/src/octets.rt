@@ -1,6 +1,7 @@
 // Bytes that are owned, and equality of bytes.
 ghost use Rattle.std.specs.Prelude.{◌≡◌, ℕ, List, [], ◌++◌, length, IfOk, OnOk, OnErr};
 ghost use Rattle.std.specs.Str.{bytes_eq};
+ghost use Rattle.eac_base.specs.Bytes.{AreBytes};
 
 use crate::NoMemory;
 use std::alloc::Global;
@@ -62,6 +63,11 @@ impl Octets {
         self.bytes.as_slice()
     }
 }
+
+/// For proofs: each item of a slice of bytes is one.
+pub fn are_bytes(bytes: &[u8])
+    ensures { AreBytes bytes.now }
+{}
 
 /// Whether the bytes are the same.
 pub fn is_same(left: &[u8], right: &[u8]) -> bool

@@ -63,7 +63,7 @@ impl FailPlan {
 }
 
 /// Counts a call. Gives whether it fails by the plan, and the new count, which stays at its last value.
-pub(crate) fn counted(plan: &FailPlan, calls: u64) -> (bool, u64)
+pub fn counted(plan: &FailPlan, calls: u64) -> (bool, u64)
     ensures fails { IsTrue result.0 ↔ IsPlanned plan.now calls }
     ensures count { result.1 ≡ next_count calls }
 {

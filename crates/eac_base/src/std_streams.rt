@@ -12,7 +12,11 @@ pub struct StdSource<R: Read> {
 }
 
 impl<R: Read> StdSource<R> {
-    pub fn new(inner: R) -> StdSource<R> {
+    /// No read of it has failed yet.
+    pub fn new(inner: R) -> StdSource<R>
+        ensures left { R.remaining result.inner ≡ R.remaining inner }
+        ensures faults { result.faults ≡ 0 }
+    {
         StdSource { inner, faults: 0 }
     }
 }
@@ -41,7 +45,11 @@ pub struct StdSink<W: Write> {
 }
 
 impl<W: Write> StdSink<W> {
-    pub fn new(inner: W) -> StdSink<W> {
+    /// No write to it has failed yet.
+    pub fn new(inner: W) -> StdSink<W>
+        ensures taken { W.contents result.inner ≡ W.contents inner }
+        ensures faults { result.faults ≡ 0 }
+    {
         StdSink { inner, faults: 0 }
     }
 }

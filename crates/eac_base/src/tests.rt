@@ -1,13 +1,14 @@
 use crate::{
-    Ack, Acks, FailPlan, MemorySink, MemorySource, Octets, ReadRefusal, Words, read_all, write_all,
+    Ack, Acks, ByteLists, FailPlan, MemorySink, MemorySource, Octets, ReadRefusal, read_all,
+    write_all,
 };
 use std::test::Fail;
 
 #[test]
 fn lists_grow_where_memory_is_there(rt: HostRuntime) -> Result<(), Fail> {
     let alloc = rt.alloc();
-    let mut words = Words::new(alloc);
-    words.push(b"run")?;
+    let mut lists = ByteLists::new(alloc);
+    lists.push(b"run")?;
     let mut acks = Acks::new(alloc);
     let ack = Ack {
         chip: 3,
@@ -17,7 +18,7 @@ fn lists_grow_where_memory_is_there(rt: HostRuntime) -> Result<(), Fail> {
     acks.push(ack)?;
     let mut octets = Octets::from_slice(alloc, b"ab")?;
     octets.push_all(b"c")?;
-    assert_eq!(rt; words.get(0), Some(b"run".as_slice()));
+    assert_eq!(rt; lists.get(0), Some(b"run".as_slice()));
     assert_eq!(rt; acks.get(0), Some(&ack));
     assert_eq!(rt; octets.as_slice(), b"abc".as_slice());
     Ok(())

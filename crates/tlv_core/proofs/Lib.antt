@@ -1,4 +1,3 @@
-pub mod Steps
 pub mod Objects
 pub mod ReadFront
 pub mod More

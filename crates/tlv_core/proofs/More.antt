@@ -8,7 +8,7 @@ use Rattle.eac_base.specs.Answers.{◌>>=◌}
 use Rattle.tlv_core.specs.declared.TlvRefusal.{TlvRefusal}
 use Rattle.tlv_core.specs.Object.{tag_at, length_at, one_byte_length, two_byte_length, first_object, First, onward, after_objects, are_objects}
 use Rattle.tlv_core.proofs.Objects.{cut}
-use Rattle.tlv_core.proofs.Steps.{bind_ok, chosen, ok_is}
+use Rattle.eac_base.proofs.Steps.{bind_ok, chosen, ok_is}
 
 tag_more : (b more : List ℕ) (t : ℕ) (r : List ℕ) → tag_at b ≡ Ok (t, r) → tag_at (b ++ more) ≡ Ok (t, r ++ more)
 tag_more [] more t r e = absurd cc

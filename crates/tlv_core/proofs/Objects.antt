@@ -10,7 +10,7 @@ use Rattle.eac_base.specs.Bytes.{AreBytes}
 use Rattle.eac_base.specs.Answers.{◌>>=◌}
 use Rattle.tlv_core.specs.declared.TlvRefusal.TheVariants.{Truncated}
 use Rattle.tlv_core.specs.Object.{is_tag, tag_bytes, length_bytes, object, tag_at, length_at, one_byte_length, two_byte_length, first_object, First}
-use Rattle.tlv_core.proofs.Steps.{bind_ok, chosen, ok_is}
+use Rattle.eac_base.proofs.Steps.{bind_ok, chosen, ok_is}
 use Rattle.tlv_core.specs.Laws.{OneSpelling, OneObject, NoProperPrefix, WriteAfterRead}
 
 pub tag_again : (t : ℕ) (rest : List ℕ) → IsTrue (is_tag t) → tag_at (tag_bytes t ++ rest) ≡ Ok (t, rest)

@@ -6,7 +6,7 @@ use Rattle.eac_base.specs.Answers.{Answers}
 use Rattle.tlv_core.specs.declared.TlvRefusal.{TlvRefusal}
 use Rattle.tlv_core.specs.Object.{first_object, First, BeginsWith}
 use Rattle.tlv_core.proofs.Objects.{object_again, write_after_read}
-use Rattle.tlv_core.proofs.Steps.{ok_is}
+use Rattle.eac_base.proofs.Steps.{ok_is}
 
 pub stands : {X : Type 0} (seen : X → First) (bytes : List ℕ) (r : Result X TlvRefusal) → AreBytes bytes → Answers seen (λ e. Some e) r (first_object bytes)
     → IfOk r (λ x. BeginsWith (seen x).tag (seen x).content (seen x).rest bytes)

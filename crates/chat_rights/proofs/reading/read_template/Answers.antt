@@ -1,4 +1,4 @@
-use Rattle.tlv_core.proofs.Steps.{are_bytes_of}
+use Rattle.eac_base.proofs.Steps.{are_bytes_of}
 use Rattle.chat_rights.proofs.Templates.{stands, is_found}
 use Rattle.chat_rights.proofs.reading.read_template.Goals as goal
 

@@ -1,5 +1,5 @@
 use Rattle.tlv_core.proofs.ReadFront.{stands, is_found}
-use Rattle.tlv_core.proofs.Steps.{are_bytes_of}
+use Rattle.eac_base.proofs.Steps.{are_bytes_of}
 use Rattle.tlv_core.proofs.reading.next_object.Goals as goal
 
 pub returns-clause-found : goal.returns-clause-found
