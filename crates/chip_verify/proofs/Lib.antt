@@ -1,0 +1,5 @@
+pub mod AcceptedChains
+pub mod GoodChains
+pub mod Grants
+pub mod LaterTrusts
+pub mod Links

@@ -1,0 +1,72 @@
+-- What an accepted link has passed.
+use Rattle.std.proofs.Common.{◌≡◌, ◌≢◌, ◌⊎◌, inl, inr, ◌<◌, ◌≤◌, ℕ, max, List, [], ◌∷◌, ◌++◌, Option, Some, None, Bool, true, false, cond, refl, sym, ◌∙◌, ap, subst, arith, ⊎_elim}
+use Rattle.std.proofs.lemmas.Bool.Decides.{nat_tests}
+use Rattle.std.specs.Prelude.{IfSome, find, not, ◌&&◌, ◌||◌, ◌==◌, nat_lt, nat_le, nat_eq, bit_and, ◌↔◌}
+use Rattle.std.specs.Str.{bytes_eq}
+use Rattle.eac_base.proofs.EqualBytes.{bytes_eq-self, bytes_eq-true}
+use Rattle.eac_base.specs.Bytes.{is_empty}
+use Rattle.chat_rights.specs.declared.Role.{Role}
+use Rattle.chat_rights.specs.declared.Role.TheVariants.{Terminal, Foreign, Domestic, Cvca}
+use Rattle.signature_provider.specs.Key.{is_elliptic}
+use Rattle.signature_provider.specs.Provider.{Says}
+use Rattle.signature_provider.specs.declared.key.Algorithm.{Algorithm}
+use Rattle.cvc_grammar.specs.Certificate.{body_text}
+use Rattle.cvc_grammar.specs.declared.certificate.CertBody.{CertBody}
+use Rattle.cvc_grammar.specs.declared.certificate.Cert.{Cert}
+use Rattle.chip_verify.specs.declared.trust_point.TrustPoint.{TrustPoint}
+use Rattle.chip_verify.specs.declared.session.Verified.{Verified}
+use Rattle.chip_verify.specs.declared.answers.ImportRefusal.{ImportRefusal}
+use Rattle.chip_verify.specs.declared.answers.ImportRefusal.TheVariants as refusal
+use Rattle.chip_verify.specs.Trust.{Trust, points, older_points, ComesBefore, IsTrust}
+use Rattle.chip_verify.specs.Session.{SessionValue, no_session, granted_by, granted}
+use Rattle.chip_verify.specs.Later.{Later, IsAmong, IsAfterAll, KeptOrNew}
+use Rattle.chip_verify.specs.Refusals.{Sort, Link, OfVerifier, OfTerminal, sort_of, is_link, Issuer, Point, Session_verifier, key_of, is_point, until_of, older_named, verifier_named, or_else, issuer_of, is_held, same_template, same_kept_key, lacks_domain, foreign_key, wrong_key, wrong_role, same_algorithm, first_refusal, refusal_of}
+use Rattle.chip_verify.specs.Step.{trust_after, session_after, verified, new_point, full_key, Step, verdict_under, verdict_on}
+use Rattle.chip_verify.specs.GoodChain.{linked, IsLink, AreLinks, points_with, latest, IsVerifier, IsTerminal, IsNone, GoodChain, Accepts, AllLinks, AreInOrder, IsAccepted}
+use Rattle.chip_verify.specs.Grant.{StandInAll, IsGrant, grant, Accepted, Leads, verifier_at, HasVerifier, EndsWith, Granting}
+
+-- what the first test passes, and then the rest
+pub found_none : {A : Type 0} (b : Bool) (x : A) (rest : Option A) → cond b (Some x) rest ≡ None → (b ≡ false) × (rest ≡ None)
+found_none true x rest h = absurd (cc)
+found_none false x rest h = (refl, h)
+
+pub either_false : (a b : Bool) → (a || b) ≡ false → (a ≡ false) × (b ≡ false)
+either_false true b h = absurd (cc)
+either_false false b h = (refl, h)
+
+pub record LinkFacts (t : Trust) (c : CertBody) : Type 0 where
+  pub newest : bytes_eq t.newest.reference c.authority ≡ true
+  pub other : bytes_eq c.authority c.holder ≡ false
+  pub later : t.newest.from < c.from
+
+link_passed : (t : Trust) (c : CertBody) (i : Issuer) → first_refusal Link t c (Some i) ≡ None → LinkFacts t c
+link_passed t c i none =
+    let role = found_none (wrong_role Link t c i Link) _ _ none in
+    let key = found_none _ _ _ role.1 in
+    let branch = found_none (not (bytes_eq t.newest.reference c.authority)) _ _ key.1 in
+    let late = found_none (nat_le c.from t.newest.from) _ _ branch.1 in
+    let same : bytes_eq t.newest.reference c.authority ≡ true = grind (arith, nat_tests) in
+    record {
+      newest = same;
+      other = (either_false (not (is_point i)) (bytes_eq c.authority c.holder) role.0).1;
+      later = grind (arith, nat_tests, late.0);
+    }
+
+pub link_facts : (t : Trust) (s : SessionValue) (c : CertBody) (i : Issuer) → issuer_of t s c ≡ Some i → refusal_of t s c ≡ None → sort_of c.template.role ≡ Link → LinkFacts t c
+link_facts t s c i is none sort = link_passed t c i (subst (λ (p : Sort × Option Issuer). first_refusal p.0 t c p.1 ≡ None) (λ j. (sort j, is j)) none)
+
+-- the link's point differs from the one that it replaces as the newest
+link_trust : (t : Trust) (c : CertBody) → LinkFacts t c → t.newest.reference ≡ c.holder → ⊥
+link_trust t c f same =
+    let authority : t.newest.reference ≡ c.authority = bytes_eq-true t.newest.reference c.authority f.newest in
+    let one : bytes_eq c.authority c.holder ≡ true = subst (λ (r : List ℕ). bytes_eq r c.holder ≡ true) (sym same ∙ authority) (bytes_eq-self c.holder) in
+    absurd (cc (one, f.other))
+
+-- a trust stays one
+pub step_trust : (t : Trust) (s : SessionValue) (c : CertBody) (verdict : Bool) (t' : Trust) (s' : SessionValue) → IsTrust t → Step t s c verdict t' s' → IsTrust t'
+step_trust t s c verdict t' s' is st = subst IsTrust (sym st.trust) (go (sort_of c.template.role) refl)
+  where
+    go : (so : Sort) → sort_of c.template.role ≡ so → IsTrust (trust_after so t s c st.issuer)
+    go Link sort = let f = link_facts t s c st.issuer st.named st.allowed sort in record { older = record { reference = link_trust t c f; from = f.later } }
+    go OfVerifier sort = record { older = is.older }
+    go OfTerminal sort = record { older = is.older }

@@ -1,0 +1,9 @@
+pub mod Following
+pub mod GoodChain
+pub mod Grant
+pub mod Later
+pub mod Refusals
+pub mod Session
+pub mod Step
+pub mod Trust
+pub mod Views
