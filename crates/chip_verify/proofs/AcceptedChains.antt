@@ -20,11 +20,11 @@ use Rattle.chip_verify.specs.declared.answers.ImportRefusal.TheVariants as refus
 use Rattle.chip_verify.specs.Trust.{Trust, points, older_points, ComesBefore, IsTrust}
 use Rattle.chip_verify.specs.Session.{SessionValue, no_session, granted_by, granted}
 use Rattle.chip_verify.specs.Later.{Later, IsAmong, IsAfterAll, KeptOrNew}
-use Rattle.chip_verify.specs.Refusals.{Sort, Link, OfVerifier, OfTerminal, sort_of, is_link, Issuer, Point, Session_verifier, key_of, is_point, until_of, older_named, verifier_named, or_else, issuer_of, is_held, same_template, same_kept_key, lacks_domain, foreign_key, wrong_key, wrong_role, same_algorithm, first_refusal, refusal_of}
+use Rattle.chip_verify.specs.Refusals.{Sort, Link, OfVerifier, OfTerminal, sort_of, is_link, Issuer, Point, Session_verifier, key_of, is_point, until_of, older_named, verifier_named, or_else, issuer_of, is_held, template_of, lacks_domain, foreign_key, wrong_key, wrong_role, same_algorithm, first_refusal, refusal_of}
 use Rattle.chip_verify.specs.Step.{trust_after, session_after, verified, new_point, full_key, Step, verdict_under, verdict_on}
 use Rattle.chip_verify.specs.GoodChain.{linked, IsLink, AreLinks, points_with, latest, IsVerifier, IsTerminal, IsNone, GoodChain, Accepts, AllLinks, AreInOrder, IsAccepted}
 use Rattle.chip_verify.specs.Grant.{StandInAll, IsGrant, grant, Accepted, Leads, verifier_at, HasVerifier, EndsWith, Granting}
-use Rattle.chip_verify.proofs.Links.{step_trust}
+use Rattle.chip_verify.proofs.Links.{step_trust, behind_kind}
 
 same_true : (a b : List ℕ) → a ≡ b → bytes_eq a b ≡ true
 same_true a b e = subst (λ (x : List ℕ). bytes_eq a x ≡ true) e (bytes_eq-self a)
@@ -41,7 +41,7 @@ and_front : (a b : Bool) → a ≡ false → (a && b) ≡ false
 and_front a b e = ap (λ (x : Bool). x && b) e
 
 not_held : (t : Trust) (c : CertBody) → (is_link (sort_of c.template.role) && bytes_eq c.holder t.newest.reference) ≡ false → is_held t c ≡ false
-not_held t c e = and_front _ _ (and_front _ _ (and_front _ _ (and_front _ _ (and_front _ _ (and_front _ _ e)))))
+not_held t c e = and_front _ _ (and_front _ _ (and_front _ _ (and_front _ _ e)))
 
 same_algorithm_refl : (a b : Algorithm) → a ≡ b → same_algorithm a b ≡ true
 same_algorithm_refl a b e = subst (λ (x : Algorithm). same_algorithm a x ≡ true) e (grind (arith, nat_tests))
@@ -96,7 +96,7 @@ module _ (says : Says) where
       later = let lt = h.later in grind (arith, nat_tests)
 
       passes : first_refusal Link t l.body (Some (Point t.newest)) ≡ None
-      passes = λ i. cond (same_false l.body.authority l.body.holder h.other i) (Some refusal.Role)
+      passes = behind_kind l.body.template.kind (template_of (Point t.newest)).kind refusal.TypeDiffers _ ∙ λ i. cond (same_false l.body.authority l.body.holder h.other i) (Some refusal.Role)
           (cond (link_key l.body.key.algorithm t.newest.key.algorithm l.body.key.domain h.key i) (Some refusal.Parameters)
           (cond (not (is_newest i)) (Some refusal.Branch) (cond (later i) (Some refusal.NotLater) None)))
 
@@ -150,7 +150,7 @@ module _ (says : Says) where
       named = point_named t no_session v.body p is among h.issuer
 
       passes : first_refusal OfVerifier t v.body (Some (Point p)) ≡ None
-      passes = λ i. cond (own_key v.body (Point p) h.key.0 h.key.1 i) (Some refusal.Parameters)
+      passes = behind_kind v.body.template.kind (template_of (Point p)).kind refusal.TypeDiffers _ ∙ λ i. cond (own_key v.body (Point p) h.key.0 h.key.1 i) (Some refusal.Parameters)
           (cond (not_expired t.day p.until h.alive.0 i) (Some refusal.IssuerExpired)
           (cond (not_expired t.day v.body.until h.alive.1 i) (Some refusal.Expired) None))
 
@@ -185,7 +185,7 @@ module _ (says : Says) where
       named = no_point t (v_session v p) w.body none ∙ (λ i. cond (same_true v.body.holder w.body.authority (sym h.issuer) i) (Some (v_issuer v p)) None)
 
       passes : first_refusal OfTerminal t w.body (Some (v_issuer v p)) ≡ None
-      passes = λ i. cond (own_key w.body (v_issuer v p) h.key.0 h.key.1 i) (Some refusal.Parameters)
+      passes = behind_kind w.body.template.kind (template_of (v_issuer v p)).kind refusal.TypeDiffers _ ∙ λ i. cond (own_key w.body (v_issuer v p) h.key.0 h.key.1 i) (Some refusal.Parameters)
           (cond (not_expired t.day v.body.until h.alive.0 i) (Some refusal.IssuerExpired)
           (cond (not_expired t.day w.body.until h.alive.1 i) (Some refusal.Expired) None))
 

@@ -20,11 +20,12 @@ use Rattle.chip_verify.specs.declared.answers.ImportRefusal.TheVariants as refus
 use Rattle.chip_verify.specs.Trust.{Trust, points, older_points, ComesBefore, IsTrust}
 use Rattle.chip_verify.specs.Session.{SessionValue, no_session, granted_by, granted}
 use Rattle.chip_verify.specs.Later.{Later, IsAmong, IsAfterAll, KeptOrNew}
-use Rattle.chip_verify.specs.Refusals.{Sort, Link, OfVerifier, OfTerminal, sort_of, is_link, Issuer, Point, Session_verifier, key_of, is_point, until_of, older_named, verifier_named, or_else, issuer_of, is_held, same_template, same_kept_key, lacks_domain, foreign_key, wrong_key, wrong_role, same_algorithm, first_refusal, refusal_of}
+use Rattle.chip_verify.specs.Refusals.{Sort, Link, OfVerifier, OfTerminal, sort_of, is_link, Issuer, Point, Session_verifier, key_of, is_point, until_of, older_named, verifier_named, or_else, issuer_of, is_held, template_of, lacks_domain, foreign_key, wrong_key, wrong_role, same_algorithm, first_refusal, refusal_of}
 use Rattle.chip_verify.specs.Step.{trust_after, session_after, verified, new_point, full_key, Step, verdict_under, verdict_on}
 use Rattle.chip_verify.specs.GoodChain.{linked, IsLink, AreLinks, points_with, latest, IsVerifier, IsTerminal, IsNone, GoodChain, Accepts, AllLinks, AreInOrder, IsAccepted}
 use Rattle.chip_verify.specs.Grant.{StandInAll, IsGrant, grant, Accepted, Leads, verifier_at, HasVerifier, EndsWith, Granting}
-use Rattle.chip_verify.proofs.Links.{step_trust, found_none, either_false, LinkFacts, link_facts}
+use Rattle.chip_verify.proofs.AcceptedChains.{good_chain_accepted}
+use Rattle.chip_verify.proofs.Links.{behind_kind, found_none, either_false, LinkFacts, link_facts}
 
 role_link : (r : Role) → sort_of r ≡ Link → r ≡ Cvca
 role_link Cvca e = refl
@@ -77,7 +78,7 @@ module _ (says : Says) where
       let is : issuer_of t no_session l.body ≡ Some (Point t.newest) = λ i. cond (f.newest i) (Some (Point t.newest)) (or_else (older_named t.older l.body.authority) (verifier_named None l.body.authority)) in
       let who : st.issuer ≡ Point t.newest = some_same st.issuer (Point t.newest) (sym st.named ∙ is) in
       let refused : first_refusal Link t l.body (Some (Point t.newest)) ≡ None = subst (λ (p : Sort × Option Issuer). first_refusal p.0 t l.body p.1 ≡ None) (λ j. (sort j, is j)) st.allowed in
-      let role = found_none (wrong_role Link t l.body (Point t.newest) Link) _ _ refused in
+      let role = found_none (wrong_role l.body (Point t.newest) Link) _ _ (sym (behind_kind l.body.template.kind t.newest.template.kind refusal.TypeDiffers _) ∙ refused) in
       let key = found_none (is_elliptic l.body.key.algorithm && is_empty l.body.key.domain && not (is_elliptic t.newest.key.algorithm)) _ _ role.1 in (
         record {
           role = role_link l.body.template.role sort;
@@ -164,10 +165,10 @@ module _ (says : Says) where
     where
       go : (i : Issuer) → st.issuer ≡ i → first_refusal OfVerifier t v.body (Some st.issuer) ≡ None → VerifierBack t v t' s'
       go (Session_verifier u) who refused =
-          let at : first_refusal OfVerifier t v.body (Some (Session_verifier u)) ≡ None = subst (λ (i : Issuer). first_refusal OfVerifier t v.body (Some i) ≡ None) who refused in
+          let at = sym (behind_kind v.body.template.kind u.template.kind refusal.TypeDiffers _) ∙ subst (λ (i : Issuer). first_refusal OfVerifier t v.body (Some i) ≡ None) who refused in
           absurd (cc)
       go (Point p) who refused =
-          let at : first_refusal OfVerifier t v.body (Some (Point p)) ≡ None = subst (λ (i : Issuer). first_refusal OfVerifier t v.body (Some i) ≡ None) who refused in
+          let at = sym (behind_kind v.body.template.kind p.template.kind refusal.TypeDiffers _) ∙ subst (λ (i : Issuer). first_refusal OfVerifier t v.body (Some i) ≡ None) who refused in
           let is : issuer_of t no_session v.body ≡ Some (Point p) = st.named ∙ ap Some who in
           let found = point_found t no_session v.body p is in
           let key = found_none (not (is_empty v.body.key.domain) || not (same_algorithm v.body.key.algorithm p.key.algorithm)) _ _ at in
@@ -193,14 +194,14 @@ module _ (says : Says) where
     where
       go : (i : Issuer) → st.issuer ≡ i → first_refusal OfTerminal t w.body (Some st.issuer) ≡ None → IsNone (points t) w.body.authority × IsTerminal says p v t.day w
       go (Point q) who refused =
-          let at : first_refusal OfTerminal t w.body (Some (Point q)) ≡ None = subst (λ (i : Issuer). first_refusal OfTerminal t w.body (Some i) ≡ None) who refused in
+          let at = sym (behind_kind w.body.template.kind q.template.kind refusal.TypeDiffers _) ∙ subst (λ (i : Issuer). first_refusal OfTerminal t w.body (Some i) ≡ None) who refused in
           absurd (cc)
       go (Session_verifier u) who refused =
           let s : SessionValue = session_after OfVerifier no_session v.body (Point p) in
           let is : issuer_of t s w.body ≡ Some (Session_verifier u) = st.named ∙ ap Some who in
           let found = session_found t s w.body u is in
           let same : verified v.body (Point p) ≡ u = let e : Some (verified v.body (Point p)) ≡ Some u = found.there in cc in
-          let at : first_refusal OfTerminal t w.body (Some (Session_verifier (verified v.body (Point p)))) ≡ None = subst (λ (i : Issuer). first_refusal OfTerminal t w.body (Some i) ≡ None) (who ∙ ap Session_verifier (sym same)) refused in
+          let at = sym (behind_kind w.body.template.kind v.body.template.kind refusal.TypeDiffers _) ∙ subst (λ (i : Issuer). first_refusal OfTerminal t w.body (Some i) ≡ None) (who ∙ ap Session_verifier (sym same)) refused in
           let key = found_none (not (is_empty w.body.key.domain) || not (same_algorithm w.body.key.algorithm v.body.key.algorithm)) _ _ at in
           let parts = either_false (not (is_empty w.body.key.domain)) (not (same_algorithm w.body.key.algorithm v.body.key.algorithm)) key.0 in
           let old = found_none (nat_lt v.body.until t.day) _ _ key.1 in
@@ -228,3 +229,22 @@ module _ (says : Says) where
       let rest = subst (λ (x : Trust × SessionValue). Accepts says x.0 x.1 (ls ++ v ∷ w ∷ []) t' s') (λ i. (one.1 i, one.2 i)) a.3 in
       let g = accepted_is_good (trust_after Link t no_session l.body (Point t.newest)) ls v w t' s' all.1 sv sw rest in
       record { linked_up = (one.0, g.linked_up); point = g.point; among = g.among; verifier = g.verifier; terminal = g.terminal; own = g.own }
+
+-- ---- both ways
+
+are_links : (says : Says) (p : TrustPoint) (links : List Cert) → AreLinks says p links → AllLinks links
+are_links says p [] h = tt
+are_links says p (l ∷ ls) h = (ap sort_of h.0.role, are_links says (linked p l.body) ls h.1)
+
+in_order : (says : Says) (t : Trust) (links : List Cert) (v w : Cert) → GoodChain says t links v w → AreInOrder links v w
+in_order says t links v w g = record {
+  are_links = are_links says t.newest links g.linked_up;
+  verifier = ⊎_elim (λ (d : v.body.template.role ≡ Domestic). ap sort_of d) (λ (f : v.body.template.role ≡ Foreign). ap sort_of f) g.verifier.role;
+  terminal = ap sort_of g.terminal.role;
+}
+
+pub good_or_accepted : (says : Says) (t : Trust) (links : List Cert) (v w : Cert) → IsTrust t → GoodChain says t links v w ↔ IsAccepted says t links v w
+good_or_accepted says t links v w is = (
+  (λ g. let a = good_chain_accepted says t links v w is g in record { roles = in_order says t links v w g; trust = a.0; session = a.1; steps = a.2 }),
+  (λ a. accepted_is_good says t links v w a.trust a.session a.roles.are_links a.roles.verifier a.roles.terminal a.steps),
+)

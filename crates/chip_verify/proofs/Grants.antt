@@ -24,7 +24,9 @@ use Rattle.chip_verify.specs.Refusals.{Sort, Link, OfVerifier, OfTerminal, sort_
 use Rattle.chip_verify.specs.Step.{trust_after, session_after, verified, new_point, full_key, Step, verdict_under, verdict_on}
 use Rattle.chip_verify.specs.GoodChain.{linked, IsLink, AreLinks, points_with, latest, IsVerifier, IsTerminal, IsNone, GoodChain, Accepts, AllLinks, AreInOrder, IsAccepted}
 use Rattle.chip_verify.specs.Grant.{StandInAll, IsGrant, grant, Accepted, Leads, verifier_at, HasVerifier, EndsWith, Granting}
+use Rattle.chip_verify.proofs.Links.{behind_kind}
 use Rattle.chip_verify.proofs.GoodChains.{session_found}
+use Rattle.chat_rights.proofs.Bits.{Grants-bit_and as both}
 
 -- a session that has this verifier under this point
 pub record Under (told : List Accepted) (u : Verified) : Type 0 where
@@ -70,7 +72,7 @@ module _ (t : Trust) (s : SessionValue) (c : CertBody) (verdict : Bool) (t' : Tr
   at_has so sort p v x = subst (λ (k : Sort). verifier_at k one (HasVerifier told p v) p v) (sym sort) x
 
   of_verifier : sort_of c.template.role ≡ OfVerifier → (i : Issuer) → st.issuer ≡ i → StandsFor (session_after OfVerifier s c st.issuer) (one ∷ told)
-  of_verifier sort (Session_verifier u) who = let bad = passed OfVerifier (Session_verifier u) sort who in absurd (cc)
+  of_verifier sort (Session_verifier u) who = let bad = sym (behind_kind c.template.kind u.template.kind refusal.TypeDiffers _) ∙ passed OfVerifier (Session_verifier u) sort who in absurd (cc)
   of_verifier sort (Point p) who = record {
     verifier = λ u e. let is : verified c st.issuer ≡ u = cc in record { point = p; body = c; has = at_has OfVerifier sort p c (refl, who); same = sym is ∙ ap (verified c) who };
     terminal = λ r e. absurd (cc);
@@ -79,7 +81,7 @@ module _ (t : Trust) (s : SessionValue) (c : CertBody) (verdict : Bool) (t' : Tr
   }
 
   of_terminal : sort_of c.template.role ≡ OfTerminal → (i : Issuer) → st.issuer ≡ i → StandsFor (session_after OfTerminal s c st.issuer) (one ∷ told)
-  of_terminal sort (Point p) who = let bad = passed OfTerminal (Point p) sort who in absurd (cc)
+  of_terminal sort (Point p) who = let bad = sym (behind_kind c.template.kind p.template.kind refusal.TypeDiffers _) ∙ passed OfTerminal (Point p) sort who in absurd (cc)
   of_terminal sort (Session_verifier u) who =
       let found = session_found t s c u (st.named ∙ ap Some who) in
       let under = h.verifier u found.there in
@@ -118,6 +120,10 @@ leads_stands t s [] told t' s' told' h l = subst (λ (x : SessionValue × List A
 leads_stands t s (c ∷ cs) told t' s' told' h (inl l) = leads_stands l.0 l.1 cs (record { body = c.0; issuer = l.2.issuer } ∷ told) t' s' told' (step_stands t s c.0 c.1 l.0 l.1 l.2 told h) l.3
 leads_stands t s (c ∷ cs) told t' s' told' h (inr l) = leads_stands t s cs told t' s' told' h l.1
 
+-- the rights of three sets at once
+three_sets : (a b c : ℕ) → StandInAll (bit_and a (bit_and b c)) c b a
+three_sets a b c bit = ((λ g. let x = (both a (bit_and b c) bit).0 g in let y = (both b c bit).0 x.1 in (y.1, y.0, x.0)), (λ h. (both a (bit_and b c) bit).1 (h.2, (both b c bit).1 (h.1, h.0))))
+
 -- what is granted is granted by the chain
 pub granted_only : (s : SessionValue) (told : List Accepted) (g : ℕ) → StandsFor s told → granted s ≡ Some g → Granting told g
 granted_only s told g h e = go s.terminal refl
@@ -132,15 +138,16 @@ granted_only s told g h e = go s.terminal refl
         let x = h.terminal r is in
         let whole : Some (bit_and r (bit_and (verified x.body (Point x.point)).template.rights (verified x.body (Point x.point)).root)) ≡ Some g = (λ i. granted_by (sym x.verifier i) (sym is i)) ∙ e in
         let bits : bit_and r (bit_and x.body.template.rights x.point.template.rights) ≡ g = cc in
-        record { point = x.point; verifier = x.body; terminal = x.last; ends = x.ends; rights_are = sym bits ∙ ap (λ (n : ℕ). bit_and n (bit_and x.body.template.rights x.point.template.rights)) x.rights }
+        let number : g ≡ grant x.point x.body x.last = sym bits ∙ ap (λ (n : ℕ). bit_and n (bit_and x.body.template.rights x.point.template.rights)) x.rights in
+        record { point = x.point; verifier = x.body; terminal = x.last; ends = x.ends; number = number; bits = subst (IsGrant x.point x.body x.last) (sym number) (three_sets x.last.template.rights x.body.template.rights x.point.template.rights) }
 
 -- and the other way round
 pub granted_all : (s : SessionValue) (told : List Accepted) (g : ℕ) → StandsFor s told → Granting told g → granted s ≡ Some g
 granted_all s told g h x =
     let y = h.ends x.point x.verifier x.terminal x.ends in
-    (λ i. granted_by (y.1 i) (y.0 i)) ∙ ap Some (sym x.rights_are)
+    (λ i. granted_by (y.1 i) (y.0 i)) ∙ ap Some (sym x.number)
 
-pub session_grants : (t : Trust) (cs : List (CertBody × Bool)) (t' : Trust) (s' : SessionValue) (told : List Accepted) → Leads t no_session cs [] t' s' told → (g : ℕ) → (granted s' ≡ Some g → Granting told g) × (Granting told g → granted s' ≡ Some g)
+pub session_grants : (t : Trust) (cs : List (CertBody × Bool)) (t' : Trust) (s' : SessionValue) (told : List Accepted) → Leads t no_session cs [] t' s' told → (g : ℕ) → (granted s' ≡ Some g) ↔ Granting told g
 session_grants t cs t' s' told l g =
     let h = leads_stands t no_session cs [] t' s' told empty_stands l in
     (granted_only s' told g h, granted_all s' told g h)

@@ -5,6 +5,8 @@ use Rattle.std.specs.Prelude.{IfSome, find, not, ◌&&◌, ◌||◌, ◌==◌, n
 use Rattle.std.specs.Str.{bytes_eq}
 use Rattle.eac_base.proofs.EqualBytes.{bytes_eq-self, bytes_eq-true}
 use Rattle.eac_base.specs.Bytes.{is_empty}
+use Rattle.chat_rights.specs.declared.Kind.{Kind}
+use Rattle.chat_rights.specs.declared.Kind.TheVariants.{Inspection}
 use Rattle.chat_rights.specs.declared.Role.{Role}
 use Rattle.chat_rights.specs.declared.Role.TheVariants.{Terminal, Foreign, Domestic, Cvca}
 use Rattle.signature_provider.specs.Key.{is_elliptic}
@@ -20,7 +22,7 @@ use Rattle.chip_verify.specs.declared.answers.ImportRefusal.TheVariants as refus
 use Rattle.chip_verify.specs.Trust.{Trust, points, older_points, ComesBefore, IsTrust}
 use Rattle.chip_verify.specs.Session.{SessionValue, no_session, granted_by, granted}
 use Rattle.chip_verify.specs.Later.{Later, IsAmong, IsAfterAll, KeptOrNew}
-use Rattle.chip_verify.specs.Refusals.{Sort, Link, OfVerifier, OfTerminal, sort_of, is_link, Issuer, Point, Session_verifier, key_of, is_point, until_of, older_named, verifier_named, or_else, issuer_of, is_held, same_template, same_kept_key, lacks_domain, foreign_key, wrong_key, wrong_role, same_algorithm, first_refusal, refusal_of}
+use Rattle.chip_verify.specs.Refusals.{Sort, Link, OfVerifier, OfTerminal, sort_of, is_link, Issuer, Point, Session_verifier, key_of, is_point, until_of, older_named, verifier_named, or_else, issuer_of, is_held, same_kind, template_of, lacks_domain, foreign_key, wrong_key, wrong_role, same_algorithm, first_refusal, refusal_of}
 use Rattle.chip_verify.specs.Step.{trust_after, session_after, verified, new_point, full_key, Step, verdict_under, verdict_on}
 use Rattle.chip_verify.specs.GoodChain.{linked, IsLink, AreLinks, points_with, latest, IsVerifier, IsTerminal, IsNone, GoodChain, Accepts, AllLinks, AreInOrder, IsAccepted}
 use Rattle.chip_verify.specs.Grant.{StandInAll, IsGrant, grant, Accepted, Leads, verifier_at, HasVerifier, EndsWith, Granting}
@@ -34,6 +36,14 @@ pub either_false : (a b : Bool) → (a || b) ≡ false → (a ≡ false) × (b �
 either_false true b h = absurd (cc)
 either_false false b h = (refl, h)
 
+-- with one kind, two are the same
+pub one_kind : (a b : Kind) → same_kind a b ≡ true
+one_kind Inspection Inspection = refl
+
+-- what is left of the table behind its first row
+pub behind_kind : (a b : Kind) (x : ImportRefusal) (rest : Option ImportRefusal) → cond (not (same_kind a b)) (Some x) rest ≡ rest
+behind_kind Inspection Inspection x rest = refl
+
 pub record LinkFacts (t : Trust) (c : CertBody) : Type 0 where
   pub newest : bytes_eq t.newest.reference c.authority ≡ true
   pub other : bytes_eq c.authority c.holder ≡ false
@@ -41,7 +51,7 @@ pub record LinkFacts (t : Trust) (c : CertBody) : Type 0 where
 
 link_passed : (t : Trust) (c : CertBody) (i : Issuer) → first_refusal Link t c (Some i) ≡ None → LinkFacts t c
 link_passed t c i none =
-    let role = found_none (wrong_role Link t c i Link) _ _ none in
+    let role = found_none (wrong_role c i Link) _ _ (found_none (not (same_kind c.template.kind (template_of i).kind)) _ _ none).1 in
     let key = found_none _ _ _ role.1 in
     let branch = found_none (not (bytes_eq t.newest.reference c.authority)) _ _ key.1 in
     let late = found_none (nat_le c.from t.newest.from) _ _ branch.1 in
