@@ -3,3 +3,4 @@ pub mod GoodChains
 pub mod Grants
 pub mod LaterTrusts
 pub mod Links
+pub mod TakenKeys

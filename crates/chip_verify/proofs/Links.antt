@@ -66,7 +66,7 @@ pub link_facts : (t : Trust) (s : SessionValue) (c : CertBody) (i : Issuer) → 
 link_facts t s c i is none sort = link_passed t c i (subst (λ (p : Sort × Option Issuer). first_refusal p.0 t c p.1 ≡ None) (λ j. (sort j, is j)) none)
 
 -- the link's point differs from the one that it replaces as the newest
-link_trust : (t : Trust) (c : CertBody) → LinkFacts t c → t.newest.reference ≡ c.holder → ⊥
+pub link_trust : (t : Trust) (c : CertBody) → LinkFacts t c → t.newest.reference ≡ c.holder → ⊥
 link_trust t c f same =
     let authority : t.newest.reference ≡ c.authority = bytes_eq-true t.newest.reference c.authority f.newest in
     let one : bytes_eq c.authority c.holder ≡ true = subst (λ (r : List ℕ). bytes_eq r c.holder ≡ true) (sym same ∙ authority) (bytes_eq-self c.holder) in
