@@ -1,0 +1,5 @@
+pub mod DeviceWork
+pub mod Greatest
+pub mod Records
+pub mod Recordings
+pub mod SlotWrites
