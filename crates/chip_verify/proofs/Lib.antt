@@ -3,4 +3,5 @@ pub mod GoodChains
 pub mod Grants
 pub mod LaterTrusts
 pub mod Links
+pub mod OneStep
 pub mod TakenKeys

@@ -96,6 +96,19 @@ pub record Step (t : Trust) (s : SessionValue) (c : CertBody) (verdict : Bool) (
   pub trust : t' ≡ trust_after (sort_of c.template.role) t s c issuer
   pub session : s' ≡ session_after (sort_of c.template.role) s c issuer
 
+-- No step leads on.
+abbrev pub NoStep : Trust → SessionValue → CertBody → Bool → Type 0
+NoStep t s c verdict = (mid : Trust) (next : SessionValue) → Step t s c verdict mid next → ⊥
+
+-- The chip as it was.
+pub record Stands (t : Trust) (s : SessionValue) (t' : Trust) (s' : SessionValue) : Type 0 where
+  pub trust : t' ≡ t
+  pub session : s' ≡ s
+
+-- A certificate moves the chip by a step, or none leads on and nothing changes.
+abbrev pub Moves : Trust → SessionValue → CertBody → Bool → Trust → SessionValue → Type 0
+Moves t s c verdict t' s' = Step t s c verdict t' s' ⊎ (NoStep t s c verdict × Stands t s t' s')
+
 -- ---- what a call answers
 
 -- What the provider says of a certificate's signature over its whole body, for the issuer's key.
@@ -129,10 +142,6 @@ Judges says t s c (Refused k) = (checked t s c.body ≡ checks.Refused k) ⊎ Is
 Judges says t s c (Next t' s' what) = IsNext says t s c t' s' what
 
 -- What stands in the chip after a certificate was judged so: what follows, or what was there.
-pub record Stands (t : Trust) (s : SessionValue) (t' : Trust) (s' : SessionValue) : Type 0 where
-  pub trust : t' ≡ t
-  pub session : s' ≡ s
-
 abbrev pub Stores : Trust → SessionValue → Judged → Trust → SessionValue → Type 0
 Stores t s Held t' s' = Stands t s t' s'
 Stores t s (Refused k) t' s' = Stands t s t' s'

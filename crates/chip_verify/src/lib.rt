@@ -21,6 +21,7 @@ mod issuer;
 mod judging;
 pub mod laws;
 mod next;
+mod root;
 mod session;
 mod table;
 #[cfg(test)]
