@@ -4,4 +4,5 @@ pub mod Grants
 pub mod LaterTrusts
 pub mod Links
 pub mod OneStep
+pub mod OwnCertificate
 pub mod TakenKeys

@@ -1,7 +1,8 @@
 // What a certificate is before its signature is looked at.
-ghost use Rattle.std.specs.Prelude.{◌≡◌};
+ghost use Rattle.std.specs.Prelude.{◌≡◌, ◌↔◌};
 ghost use Rattle.chat_rights.specs.Template as template;
 ghost use Rattle.chip_verify.specs.Refusals as words;
+ghost use Rattle.chip_verify.specs.Refusals.{IsOwn};
 ghost use Rattle.chip_verify.specs.Views.{seen_body, Weighs};
 
 use crate::issuer::{Voucher, issuer_named};
@@ -80,6 +81,7 @@ pub fn weigh<'a>(state: &'a ChipState, session: &'a Session, cert: &CertView) ->
 /// It is `Held` where all that a chip keeps of it is the newest trust point's, its domain being absent or equal. Else the
 /// first row that applies refuses it. Else it asks for the signature.
 pub fn check(state: &ChipState, session: &Session, cert: &CertView) -> Checked
+    ensures held { (result ≡ Checked.Held) ↔ IsOwn state.now.newest (seen_body cert.now) }
     ensures exact { result ≡ words.checked state.now session.now (seen_body cert.now) }
 {
     match weigh(state, session, cert) {
