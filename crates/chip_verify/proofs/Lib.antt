@@ -5,4 +5,5 @@ pub mod LaterTrusts
 pub mod Links
 pub mod OneStep
 pub mod OwnCertificate
+pub mod SameValues
 pub mod TakenKeys

@@ -14,6 +14,7 @@ use Rattle.chat_rights.specs.Template.{role_number, role_of}
 use Rattle.signature_provider.specs.declared.key.Algorithm.{Algorithm}
 use Rattle.cvc_grammar.specs.declared.certificate.CertBody.{CertBody}
 use Rattle.cvc_grammar.proofs.KeyAgain.{and_both}
+use Rattle.chip_verify.proofs.SameValues.{both_true, either_true, template_is, template_self, algorithm_is, algorithm_self}
 use Rattle.chip_verify.specs.declared.answers.ImportRefusal.{ImportRefusal}
 use Rattle.chip_verify.specs.declared.answers.Checked.{Checked}
 use Rattle.chip_verify.specs.declared.answers.Checked.TheVariants as checks
@@ -21,48 +22,6 @@ use Rattle.chip_verify.specs.declared.trust_point.TrustPoint.{TrustPoint}
 use Rattle.chip_verify.specs.Trust.{Trust}
 use Rattle.chip_verify.specs.Session.{SessionValue}
 use Rattle.chip_verify.specs.Refusals.{sort_of, is_link, same_kind, same_template, same_algorithm, same_kept_key, is_of, IsOwn, refused_or_ask, refusal_of, checked, is_held}
-
-both_true : (a b : Bool) → a ≡ true → b ≡ true → (a && b) ≡ true
-both_true a b p q = (λ i. p i && b) ∙ q
-
-either_true : (a b : Bool) → (a || b) ≡ true → (a ≡ true) ⊎ (b ≡ true)
-either_true true b e = inl refl
-either_true false b e = inr e
-
--- ---- parts
-
-role_again : (r : Role) → role_of (role_number r) ≡ r
-role_again Terminal = refl
-role_again Foreign = refl
-role_again Domestic = refl
-role_again Cvca = refl
-
-kind_same : (a b : Kind) → a ≡ b
-kind_same Inspection Inspection = refl
-
-template_is : (a b : Template) → same_template a b ≡ true → a ≡ b
-template_is a b e =
-    let rights = and_both (same_kind a.kind b.kind && (role_number a.role == role_number b.role)) (a.rights == b.rights) e in
-    let roles = and_both (same_kind a.kind b.kind) (role_number a.role == role_number b.role) rights.0 in
-    let role = sym (role_again a.role) ∙ ap role_of (eqb-true _ _ roles.1) ∙ role_again b.role in
-    let number = eqb-true _ _ rights.1 in
-    λ i. record { kind = kind_same a.kind b.kind i; role = role i; rights = number i }
-
-template_self : (a : Template) → same_template a a ≡ true
-template_self a = both_true _ _ (both_true _ _ (go a.kind) (eq-eqb (role_number a.role) (role_number a.role) refl)) (eq-eqb a.rights a.rights refl)
-  where
-    go : (k : Kind) → same_kind k k ≡ true
-    go Inspection = refl
-
-algorithm_is : (a b : Algorithm) → same_algorithm a b ≡ true → a ≡ b
-algorithm_is a b e =
-    let parts = and_both (a.arc == b.arc) (a.last == b.last) e in
-    let arc = eqb-true _ _ parts.0 in
-    let last = eqb-true _ _ parts.1 in
-    λ i. record { arc = arc i; last = last i }
-
-algorithm_self : (a : Algorithm) → same_algorithm a a ≡ true
-algorithm_self a = both_true _ _ (eq-eqb a.arc a.arc refl) (eq-eqb a.last a.last refl)
 
 role_of_link : (r : Role) → is_link (sort_of r) ≡ true → r ≡ Cvca
 role_of_link Cvca e = refl

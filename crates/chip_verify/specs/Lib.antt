@@ -4,6 +4,7 @@ pub mod Grant
 pub mod Later
 pub mod Refusals
 pub mod Root
+pub mod Same
 pub mod Session
 pub mod Step
 pub mod Trust

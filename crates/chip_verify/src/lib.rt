@@ -22,6 +22,7 @@ mod judging;
 pub mod laws;
 mod next;
 mod root;
+mod same;
 mod session;
 mod table;
 #[cfg(test)]
