@@ -1,17 +1,16 @@
 -- A certificate that is held or refused leads nowhere, and one that is taken to one place.
-use Rattle.std.proofs.Common.{◌≡◌, ◌⊎◌, inl, inr, Option, Some, None, Bool, true, false, cond, refl, sym, ◌∙◌, ap, true≢false}
+use Rattle.std.proofs.Common.{◌≡◌, inl, inr, Option, Some, None, Bool, true, false, cond, refl, sym, ◌∙◌, ap, true≢false}
 use Rattle.signature_provider.specs.Provider.{Says}
 use Rattle.cvc_grammar.specs.declared.certificate.CertBody.{CertBody}
 use Rattle.cvc_grammar.specs.declared.certificate.Cert.{Cert}
 use Rattle.chip_verify.specs.declared.answers.ImportRefusal.{ImportRefusal}
-use Rattle.chip_verify.specs.declared.answers.Checked.{Checked}
 use Rattle.chip_verify.specs.declared.answers.Checked.TheVariants as checks
 use Rattle.chip_verify.specs.declared.answers.Judged.{Judged}
 use Rattle.chip_verify.specs.declared.answers.Judged.TheVariants as judges
 use Rattle.chip_verify.specs.Trust.{Trust}
 use Rattle.chip_verify.specs.Session.{SessionValue}
-use Rattle.chip_verify.specs.Refusals.{Issuer, sort_of, issuer_of, is_held, refusal_of, refused_or_ask, checked}
-use Rattle.chip_verify.specs.Step.{trust_after, session_after, Step, NoStep, Stands, Moves, Judges, Stores, verdict_on}
+use Rattle.chip_verify.specs.Refusals.{Issuer, sort_of, is_held, refusal_of, refused_or_ask, checked}
+use Rattle.chip_verify.specs.Step.{trust_after, session_after, Step, NoStep, Moves, Judges, Stores, verdict_on}
 
 -- A step is asked for.
 asks : (held : Bool) (refusal : Option ImportRefusal) → held ≡ false → refusal ≡ None → cond held checks.Held (refused_or_ask refusal) ≡ checks.Ask

@@ -1,16 +1,13 @@
 -- The test for the newest point's own certificate says what it should.
-use Rattle.std.proofs.Common.{◌≡◌, ◌⊎◌, inl, inr, ℕ, Bool, true, false, cond, List, [], ◌∷◌, Option, Some, None, ◌↔◌, refl, sym, ◌∙◌, ap, subst, true≢false}
-use Rattle.std.specs.Prelude.{◌&&◌, ◌||◌, ◌==◌}
+use Rattle.std.proofs.Common.{◌≡◌, ◌⊎◌, inl, inr, ℕ, Bool, true, false, cond, List, [], ◌∷◌, Option, Some, None, ◌↔◌, refl, sym, ◌∙◌, ap, subst}
+use Rattle.std.specs.Prelude.{◌||◌, ◌==◌}
 use Rattle.std.specs.Str.{bytes_eq}
 use Rattle.std.proofs.lemmas.Bool.{eqb-true, eq-eqb}
 use Rattle.eac_base.proofs.EqualBytes.{bytes_eq-self, bytes_eq-true}
 use Rattle.eac_base.specs.Bytes.{is_empty}
-use Rattle.chat_rights.specs.declared.Kind.{Kind}
-use Rattle.chat_rights.specs.declared.Kind.TheVariants.{Inspection}
 use Rattle.chat_rights.specs.declared.Role.{Role}
 use Rattle.chat_rights.specs.declared.Role.TheVariants.{Terminal, Foreign, Domestic, Cvca}
 use Rattle.chat_rights.specs.declared.Template.{Template}
-use Rattle.chat_rights.specs.Template.{role_number, role_of}
 use Rattle.signature_provider.specs.declared.key.Algorithm.{Algorithm}
 use Rattle.cvc_grammar.specs.declared.certificate.CertBody.{CertBody}
 use Rattle.cvc_grammar.proofs.KeyAgain.{and_both}
@@ -21,7 +18,7 @@ use Rattle.chip_verify.specs.declared.answers.Checked.TheVariants as checks
 use Rattle.chip_verify.specs.declared.trust_point.TrustPoint.{TrustPoint}
 use Rattle.chip_verify.specs.Trust.{Trust}
 use Rattle.chip_verify.specs.Session.{SessionValue}
-use Rattle.chip_verify.specs.Refusals.{sort_of, is_link, same_kind, same_template, same_algorithm, same_kept_key, is_of, IsOwn, refused_or_ask, refusal_of, checked, is_held}
+use Rattle.chip_verify.specs.Refusals.{sort_of, is_link, same_template, same_algorithm, same_kept_key, is_of, IsOwn, refused_or_ask, refusal_of, checked, is_held}
 
 role_of_link : (r : Role) → is_link (sort_of r) ≡ true → r ≡ Cvca
 role_of_link Cvca e = refl

@@ -1,17 +1,15 @@
 -- What is known of the key of a certificate that was read, and of a link that is taken.
-use Rattle.std.proofs.Common.{◌≡◌, ◌≢◌, ℕ, ◌<◌, ◌≤◌, Bool, true, false, cond, List, [], ◌∷◌, ◌++◌, length, None, refl, sym, subst, ap, arith}
-use Rattle.std.specs.Prelude.{IsTrue, not, ◌&&◌, ◌||◌}
+use Rattle.std.proofs.Common.{◌≡◌, ℕ, ◌≤◌, Bool, true, false, cond, List, [], ◌∷◌, ◌++◌, length, None, refl, sym, subst, ap, arith}
+use Rattle.std.specs.Prelude.{IsTrue, not, ◌&&◌}
 use Rattle.std.proofs.lemmas.List.{length-append}
 use Rattle.std.proofs.lemmas.Bool.{leb-true}
 use Rattle.eac_base.specs.Bytes.{is_empty}
-use Rattle.tlv_core.specs.Object.{object, after_objects}
+use Rattle.tlv_core.specs.Object.{object}
 use Rattle.chat_rights.specs.declared.Role.{Role}
 use Rattle.chat_rights.specs.declared.Role.TheVariants.{Terminal, Foreign, Domestic, Cvca}
 use Rattle.signature_provider.specs.declared.key.Key.{Key}
 use Rattle.signature_provider.specs.Key.{is_algorithm, is_elliptic, is_key, key_fits, is_elliptic_key, is_rsa_key, is_rsa_point, key_content, key_object, key_values, algorithm_identifier}
-use Rattle.cvc_grammar.specs.declared.certificate.CertBody.{CertBody}
 use Rattle.cvc_grammar.specs.declared.certificate.CertView.{CertView}
-use Rattle.cvc_grammar.specs.Views.{seen_cert}
 use Rattle.cvc_grammar.proofs.CertAgain.{longer, point_short}
 use Rattle.cvc_grammar.proofs.KeyAgain.{and_both}
 use Rattle.chip_verify.specs.Trust.{Trust, IsPoint, IsLegalTrust}

@@ -6,7 +6,7 @@ use Rattle.signature_provider.specs.Key.{is_elliptic}
 use Rattle.signature_provider.specs.Provider.{public_key}
 use Rattle.cvc_grammar.specs.declared.certificate.CertBody.{CertBody}
 use Rattle.chip_verify.specs.declared.trust_point.TrustPoint.{TrustPoint}
-use Rattle.chip_verify.specs.Trust.{Trust}
+use Rattle.chip_verify.specs.Trust.{Trust, certified}
 use Rattle.chip_verify.specs.Refusals.{sort_of, is_link}
 
 -- An authority's certificate whose key needs no other's domain.
@@ -14,13 +14,7 @@ abbrev pub is_root : CertBody → Bool
 is_root c = is_link (sort_of c.template.role) && not (is_elliptic c.key.algorithm && is_empty c.key.domain)
 
 abbrev pub root_point : CertBody → TrustPoint
-root_point c = record {
-  reference = c.holder;
-  template = c.template;
-  from = c.from;
-  until = c.until;
-  key = public_key c.key;
-}
+root_point c = certified c (public_key c.key)
 
 -- The trust of a chip that is made with this certificate on this day.
 abbrev pub first_trust : CertBody → ℕ → Option Trust

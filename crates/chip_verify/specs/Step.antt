@@ -19,7 +19,7 @@ use Rattle.chip_verify.specs.declared.answers.Imported.{Imported}
 use Rattle.chip_verify.specs.declared.answers.Imported.TheVariants as imports
 use Rattle.chip_verify.specs.declared.answers.Judged.{Judged}
 use Rattle.chip_verify.specs.declared.answers.Judged.TheVariants.{Held, Refused, Next}
-use Rattle.chip_verify.specs.Trust.{Trust}
+use Rattle.chip_verify.specs.Trust.{Trust, certified}
 use Rattle.chip_verify.specs.Session.{SessionValue, no_session}
 use Rattle.chip_verify.specs.Refusals.{Sort, Link, OfVerifier, OfTerminal, sort_of, Issuer, key_of, root_of, issuer_of, is_held, refusal_of, checked}
 
@@ -37,13 +37,7 @@ abbrev pub full_key : Key → PublicKey → PublicKey
 full_key k issuer = full_public_key k.algorithm k.domain k.point issuer
 
 abbrev pub new_point : CertBody → Issuer → TrustPoint
-new_point c i = record {
-  reference = c.holder;
-  template = c.template;
-  from = c.from;
-  until = c.until;
-  key = full_key c.key (key_of i);
-}
+new_point c i = certified c (full_key c.key (key_of i))
 
 abbrev pub verified : CertBody → Issuer → Verified
 verified c i = record {
@@ -124,7 +118,7 @@ imported_as Link = imports.Link
 imported_as OfVerifier = imports.Verifier
 imported_as OfTerminal = imports.Terminal
 
--- Row 9 of the table: no earlier row holds, and the provider says no.
+-- The last row of the table: no earlier one applies, and the provider says no.
 pub record IsUnsigned (says : Says) (t : Trust) (s : SessionValue) (c : Cert) (k : ImportRefusal) : Type 0 where
   pub asked : checked t s c.body ≡ checks.Ask
   pub row : k ≡ refusal.Signature

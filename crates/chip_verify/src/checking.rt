@@ -56,7 +56,7 @@ pub fn weigh<'a>(state: &'a ChipState, session: &'a Session, cert: &CertView) ->
     }
 }
 
-/// What a certificate is found to be by the rows 1 to 8 of the table, before its signature is looked at.
+/// What a certificate is found to be by all rows of the table but the last, before its signature is looked at.
 ///
 /// It is `Held` where all that a chip keeps of it is the newest trust point's, its domain being absent or equal. Else the
 /// first row that applies refuses it. Else it asks for the signature.

@@ -1,5 +1,5 @@
 // What holds of whole chains and over time. Each law is the contract of a function that does nothing.
-ghost use Rattle.std.specs.Prelude.{◌≡◌, ◌↔◌, ℕ, List, [], ◌∷◌, Some, Bool};
+ghost use Rattle.std.specs.Prelude.{◌≡◌, ◌↔◌, ℕ, List, [], Some, Bool};
 ghost use Rattle.cvc_grammar.specs.declared.certificate.CertBody.{CertBody};
 ghost use Rattle.cvc_grammar.specs.declared.certificate.Cert.{Cert};
 ghost use Rattle.signature_provider.specs.Provider.{Says};

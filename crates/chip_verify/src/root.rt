@@ -1,7 +1,6 @@
 // The state that a chip is made with.
 ghost use Rattle.std.specs.Prelude.{◌≡◌};
 ghost use Rattle.chip_verify.specs.Root as words;
-ghost use Rattle.chip_verify.specs.Trust.{IsPoint};
 ghost use Rattle.chip_verify.specs.Following.{KeyFits};
 ghost use Rattle.chip_verify.specs.Views.{IsView, seen_body};
 
@@ -20,13 +19,7 @@ fn root_point(cert: &CertView) -> TrustPoint
     requires { KeyFits cert.now }
     ensures { result ≡ words.root_point (seen_body cert.now) }
 {
-    TrustPoint {
-        reference: cert.holder,
-        template: cert.template,
-        from: cert.from,
-        until: cert.until,
-        key: ChipKey::of(cert.key),
-    }
+    TrustPoint::certified(cert, ChipKey::of(cert.key))
 }
 
 impl ChipState {

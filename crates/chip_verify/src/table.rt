@@ -2,7 +2,7 @@
 ghost use Rattle.std.specs.Prelude.{◌≡◌, Some, not, ◌&&◌, nat_lt, nat_le};
 ghost use Rattle.std.specs.Str.{bytes_eq};
 ghost use Rattle.chip_verify.specs.Refusals as words;
-ghost use Rattle.chip_verify.specs.Refusals.{sort_of, until_of, template_of};
+ghost use Rattle.chip_verify.specs.Refusals.{sort_of, until_of};
 ghost use Rattle.chip_verify.specs.Views.{seen_body, seen_issuer};
 
 use crate::issuer::Voucher;
