@@ -1,31 +1,17 @@
 -- What an accepted link has passed.
-use Rattle.std.proofs.Common.{◌≡◌, ◌≢◌, ◌⊎◌, inl, inr, ◌<◌, ◌≤◌, ℕ, max, List, [], ◌∷◌, ◌++◌, Option, Some, None, Bool, true, false, cond, refl, sym, ◌∙◌, ap, subst, arith, ⊎_elim}
+use Rattle.std.proofs.Common.{◌≡◌, ◌<◌, ℕ, List, Option, Some, None, Bool, true, false, cond, refl, sym, ◌∙◌, subst, arith}
 use Rattle.std.proofs.lemmas.Bool.Decides.{nat_tests}
-use Rattle.std.specs.Prelude.{IfSome, find, not, ◌&&◌, ◌||◌, ◌==◌, nat_lt, nat_le, nat_eq, bit_and, ◌↔◌}
+use Rattle.std.specs.Prelude.{not, ◌||◌, nat_le}
 use Rattle.std.specs.Str.{bytes_eq}
 use Rattle.eac_base.proofs.EqualBytes.{bytes_eq-self, bytes_eq-true}
-use Rattle.eac_base.specs.Bytes.{is_empty}
 use Rattle.chat_rights.specs.declared.Kind.{Kind}
 use Rattle.chat_rights.specs.declared.Kind.TheVariants.{Inspection}
-use Rattle.chat_rights.specs.declared.Role.{Role}
-use Rattle.chat_rights.specs.declared.Role.TheVariants.{Terminal, Foreign, Domestic, Cvca}
-use Rattle.signature_provider.specs.Key.{is_elliptic}
-use Rattle.signature_provider.specs.Provider.{Says}
-use Rattle.signature_provider.specs.declared.key.Algorithm.{Algorithm}
-use Rattle.cvc_grammar.specs.Certificate.{body_text}
 use Rattle.cvc_grammar.specs.declared.certificate.CertBody.{CertBody}
-use Rattle.cvc_grammar.specs.declared.certificate.Cert.{Cert}
-use Rattle.chip_verify.specs.declared.trust_point.TrustPoint.{TrustPoint}
-use Rattle.chip_verify.specs.declared.session.Verified.{Verified}
 use Rattle.chip_verify.specs.declared.answers.ImportRefusal.{ImportRefusal}
-use Rattle.chip_verify.specs.declared.answers.ImportRefusal.TheVariants as refusal
-use Rattle.chip_verify.specs.Trust.{Trust, points, older_points, ComesBefore, IsTrust}
-use Rattle.chip_verify.specs.Session.{SessionValue, no_session, granted_by, granted}
-use Rattle.chip_verify.specs.Later.{Later, IsAmong, IsAfterAll, KeptOrNew}
-use Rattle.chip_verify.specs.Refusals.{Sort, Link, OfVerifier, OfTerminal, sort_of, is_link, Issuer, Point, Session_verifier, key_of, is_point, until_of, older_named, verifier_named, or_else, issuer_of, is_held, same_kind, template_of, lacks_domain, foreign_key, wrong_key, wrong_role, same_algorithm, first_refusal, refusal_of}
-use Rattle.chip_verify.specs.Step.{trust_after, session_after, verified, new_point, full_key, Step, verdict_under, verdict_on}
-use Rattle.chip_verify.specs.GoodChain.{linked, IsLink, AreLinks, points_with, latest, IsVerifier, IsTerminal, IsNone, GoodChain, Accepts, AllLinks, AreInOrder, IsAccepted}
-use Rattle.chip_verify.specs.Grant.{StandInAll, IsGrant, grant, Accepted, Leads, verifier_at, HasVerifier, EndsWith, Granting}
+use Rattle.chip_verify.specs.Trust.{Trust, IsTrust}
+use Rattle.chip_verify.specs.Session.{SessionValue}
+use Rattle.chip_verify.specs.Refusals.{Sort, Link, OfVerifier, OfTerminal, sort_of, Issuer, is_point, issuer_of, same_kind, template_of, wrong_role, first_refusal, refusal_of}
+use Rattle.chip_verify.specs.Step.{trust_after, Step}
 
 -- what the first test passes, and then the rest
 pub found_none : {A : Type 0} (b : Bool) (x : A) (rest : Option A) → cond b (Some x) rest ≡ None → (b ≡ false) × (rest ≡ None)

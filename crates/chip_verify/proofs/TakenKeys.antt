@@ -1,21 +1,22 @@
 -- What is known of the key of a certificate that was read, and of a link that is taken.
-use Rattle.std.proofs.Common.{◌≡◌, ◌≢◌, ℕ, ◌<◌, ◌≤◌, Bool, true, false, cond, List, [], ◌∷◌, ◌++◌, length, refl, ap, arith}
-use Rattle.std.specs.Prelude.{IsTrue, not, ◌&&◌, ◌||◌}
+use Rattle.std.proofs.Common.{◌≡◌, ℕ, ◌≤◌, Bool, true, false, cond, List, [], ◌∷◌, ◌++◌, length, None, refl, sym, subst, ap, arith}
+use Rattle.std.specs.Prelude.{IsTrue, not, ◌&&◌}
 use Rattle.std.proofs.lemmas.List.{length-append}
 use Rattle.std.proofs.lemmas.Bool.{leb-true}
 use Rattle.eac_base.specs.Bytes.{is_empty}
-use Rattle.tlv_core.specs.Object.{object, after_objects}
-use Rattle.chat_rights.specs.declared.Role.TheVariants.{Cvca}
+use Rattle.tlv_core.specs.Object.{object}
+use Rattle.chat_rights.specs.declared.Role.{Role}
+use Rattle.chat_rights.specs.declared.Role.TheVariants.{Terminal, Foreign, Domestic, Cvca}
 use Rattle.signature_provider.specs.declared.key.Key.{Key}
 use Rattle.signature_provider.specs.Key.{is_algorithm, is_elliptic, is_key, key_fits, is_elliptic_key, is_rsa_key, is_rsa_point, key_content, key_object, key_values, algorithm_identifier}
-use Rattle.cvc_grammar.specs.declared.certificate.CertBody.{CertBody}
 use Rattle.cvc_grammar.specs.declared.certificate.CertView.{CertView}
-use Rattle.cvc_grammar.specs.Views.{seen_cert}
 use Rattle.cvc_grammar.proofs.CertAgain.{longer, point_short}
 use Rattle.cvc_grammar.proofs.KeyAgain.{and_both}
-use Rattle.chip_verify.specs.Trust.{Trust}
+use Rattle.chip_verify.specs.Trust.{Trust, IsPoint, IsLegalTrust}
 use Rattle.chip_verify.specs.Session.{SessionValue}
-use Rattle.chip_verify.specs.Refusals.{Issuer, sort_of}
+use Rattle.chip_verify.specs.Refusals.{Issuer, sort_of, is_link}
+use Rattle.chip_verify.specs.Root.{is_root, root_point}
+use Rattle.chip_verify.specs.declared.trust_point.TrustPoint.{TrustPoint}
 use Rattle.chip_verify.specs.Views.{IsView, MayBeTaken, seen_body}
 use Rattle.chip_verify.specs.Following.{KeyFits, LinkFits}
 use Rattle.chip_verify.proofs.Links.{link_facts, link_trust}
@@ -81,3 +82,24 @@ link_fits t s v i is taken role =
       reference = link_trust t (seen_body v) f;
       from = f.later;
     }
+
+-- ---- a certificate that a chip is made with
+
+role_of_link : (r : Role) → is_link (sort_of r) ≡ true → r ≡ Cvca
+role_of_link Cvca e = refl
+role_of_link Domestic e = absurd cc
+role_of_link Foreign e = absurd cc
+role_of_link Terminal e = absurd cc
+
+root_legal : (v : CertView) → IsView v → is_root (seen_body v) ≡ true → IsPoint (root_point (seen_body v))
+root_legal v is root =
+    let k = (seen_body v).key in
+    let h = has_key v is in
+    record {
+      role = role_of_link v.template.role (and_both (is_link (sort_of v.template.role)) _ root).0;
+      algorithm = h.algorithm;
+      key = point_stands (is_elliptic k.algorithm) k.domain k.point k.cofactor h.parts;
+    }
+
+pub first_legal : (v : CertView) (day : ℕ) (p : TrustPoint) → IsView v → is_root (seen_body v) ≡ true → p ≡ root_point (seen_body v) → IsLegalTrust (record { day = day; older = None; newest = p })
+first_legal v day p is root same = record { trust = record { older = tt }; newest = subst IsPoint (sym same) (root_legal v is root); older = tt }

@@ -8,7 +8,7 @@ use Rattle.cvc_grammar.specs.Certificate.{body_text}
 use Rattle.cvc_grammar.specs.declared.certificate.CertBody.{CertBody}
 use Rattle.cvc_grammar.specs.declared.certificate.Cert.{Cert}
 use Rattle.chip_verify.specs.declared.trust_point.TrustPoint.{TrustPoint}
-use Rattle.chip_verify.specs.Trust.{Trust, older_points}
+use Rattle.chip_verify.specs.Trust.{Trust, older_points, certified}
 use Rattle.chip_verify.specs.Session.{SessionValue, no_session}
 use Rattle.chip_verify.specs.Refusals.{Link, OfVerifier, OfTerminal, sort_of}
 use Rattle.chip_verify.specs.Step.{full_key, verdict_on, Step}
@@ -18,7 +18,7 @@ use Rattle.chip_verify.specs.Later.{IsAmong}
 
 -- The point that a link makes under another.
 abbrev pub linked : TrustPoint → CertBody → TrustPoint
-linked p c = record { reference = c.holder; template = c.template; from = c.from; until = c.until; key = full_key c.key p.key }
+linked p c = certified c (full_key c.key p.key)
 
 -- A link under a point. It may have expired.
 pub record IsLink (says : Says) (p : TrustPoint) (l : Cert) : Type 0 where

@@ -8,7 +8,7 @@ use Rattle.chip_verify.specs.declared.session.Verified.{Verified}
 use Rattle.chip_verify.specs.Trust.{Trust}
 use Rattle.chip_verify.specs.Session.{SessionValue}
 use Rattle.chip_verify.specs.Refusals.{Sort, Link, OfVerifier, OfTerminal, sort_of, Issuer, Point}
-use Rattle.chip_verify.specs.Step.{Step}
+use Rattle.chip_verify.specs.Step.{Step, NoStep}
 
 -- ---- a set of rights
 
@@ -43,7 +43,7 @@ abbrev pub Leads : Trust → SessionValue → List (CertBody × Bool) → List A
 Leads t s [] told t' s' told' = (t' ≡ t) × (s' ≡ s) × (told' ≡ told)
 Leads t s (c ∷ cs) told t' s' told' =
     ((mid : Trust) × (next : SessionValue) × (st : Step t s c.0 c.1 mid next) × Leads mid next cs (record { body = c.0; issuer = st.issuer } ∷ told) t' s' told')
-    ⊎ (((mid : Trust) (next : SessionValue) → Step t s c.0 c.1 mid next → ⊥) × Leads t s cs told t' s' told')
+    ⊎ (NoStep t s c.0 c.1 × Leads t s cs told t' s' told')
 
 abbrev pub verifier_at : Sort → Accepted → Type 0 → TrustPoint → CertBody → Type 0
 verifier_at OfVerifier a below p v = (a.body ≡ v) × (a.issuer ≡ Point p)

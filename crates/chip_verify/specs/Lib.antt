@@ -3,6 +3,8 @@ pub mod GoodChain
 pub mod Grant
 pub mod Later
 pub mod Refusals
+pub mod Root
+pub mod Same
 pub mod Session
 pub mod Step
 pub mod Trust

@@ -1,7 +1,7 @@
 -- Whether a chip takes a certificate: who vouches for it, whether it is shown again, and the table of refusals
 -- (BSI TR-03110-3, certificate validation; the numbers and the order of the table, and that a link comes only from the
 -- newest point and only with a later effective date, are this project's own).
-use Rattle.std.specs.Prelude.{◌==◌, ◌&&◌, ◌||◌, ℕ, List, [], ◌∷◌, Option, Some, None, Bool, true, false, not, if◌then◌else◌, nat_lt, nat_le, find}
+use Rattle.std.specs.Prelude.{◌≡◌, ◌⊎◌, ◌==◌, ◌&&◌, ◌||◌, ℕ, List, [], ◌∷◌, Option, Some, None, Bool, true, false, not, if◌then◌else◌, nat_lt, nat_le, find}
 use Rattle.std.specs.Str.{bytes_eq}
 use Rattle.eac_base.specs.Bytes.{is_empty}
 use Rattle.chat_rights.specs.declared.Kind.{Kind}
@@ -113,6 +113,18 @@ is_of p c =
     && (c.from == p.from) && (c.until == p.until)
     && same_kept_key c.key.algorithm c.key.domain c.key.point p.key
 
+-- The same in plain sight.
+pub record IsOwn (p : TrustPoint) (c : CertBody) : Type 0 where
+  pub role : c.template.role ≡ Cvca
+  pub holder : c.holder ≡ p.reference
+  pub template : c.template ≡ p.template
+  pub from : c.from ≡ p.from
+  pub until : c.until ≡ p.until
+  pub algorithm : c.key.algorithm ≡ p.key.algorithm
+  pub point : c.key.point ≡ p.key.point
+  pub domain : (c.key.domain ≡ []) ⊎ (c.key.domain ≡ p.key.domain)
+
+-- The newest point is shown again.
 abbrev pub is_held : Trust → CertBody → Bool
 is_held t c = is_of t.newest c
 

@@ -19,7 +19,7 @@ use Rattle.chip_verify.specs.declared.answers.Imported.{Imported}
 use Rattle.chip_verify.specs.declared.answers.Imported.TheVariants as imports
 use Rattle.chip_verify.specs.declared.answers.Judged.{Judged}
 use Rattle.chip_verify.specs.declared.answers.Judged.TheVariants.{Held, Refused, Next}
-use Rattle.chip_verify.specs.Trust.{Trust}
+use Rattle.chip_verify.specs.Trust.{Trust, certified}
 use Rattle.chip_verify.specs.Session.{SessionValue, no_session}
 use Rattle.chip_verify.specs.Refusals.{Sort, Link, OfVerifier, OfTerminal, sort_of, Issuer, key_of, root_of, issuer_of, is_held, refusal_of, checked}
 
@@ -37,13 +37,7 @@ abbrev pub full_key : Key → PublicKey → PublicKey
 full_key k issuer = full_public_key k.algorithm k.domain k.point issuer
 
 abbrev pub new_point : CertBody → Issuer → TrustPoint
-new_point c i = record {
-  reference = c.holder;
-  template = c.template;
-  from = c.from;
-  until = c.until;
-  key = full_key c.key (key_of i);
-}
+new_point c i = certified c (full_key c.key (key_of i))
 
 abbrev pub verified : CertBody → Issuer → Verified
 verified c i = record {
@@ -96,6 +90,19 @@ pub record Step (t : Trust) (s : SessionValue) (c : CertBody) (verdict : Bool) (
   pub trust : t' ≡ trust_after (sort_of c.template.role) t s c issuer
   pub session : s' ≡ session_after (sort_of c.template.role) s c issuer
 
+-- No step leads on.
+abbrev pub NoStep : Trust → SessionValue → CertBody → Bool → Type 0
+NoStep t s c verdict = (mid : Trust) (next : SessionValue) → Step t s c verdict mid next → ⊥
+
+-- The chip as it was.
+pub record Stands (t : Trust) (s : SessionValue) (t' : Trust) (s' : SessionValue) : Type 0 where
+  pub trust : t' ≡ t
+  pub session : s' ≡ s
+
+-- A certificate moves the chip by a step, or none leads on and nothing changes.
+abbrev pub Moves : Trust → SessionValue → CertBody → Bool → Trust → SessionValue → Type 0
+Moves t s c verdict t' s' = Step t s c verdict t' s' ⊎ (NoStep t s c verdict × Stands t s t' s')
+
 -- ---- what a call answers
 
 -- What the provider says of a certificate's signature over its whole body, for the issuer's key.
@@ -111,7 +118,7 @@ imported_as Link = imports.Link
 imported_as OfVerifier = imports.Verifier
 imported_as OfTerminal = imports.Terminal
 
--- Row 9 of the table: no earlier row holds, and the provider says no.
+-- The last row of the table: no earlier one applies, and the provider says no.
 pub record IsUnsigned (says : Says) (t : Trust) (s : SessionValue) (c : Cert) (k : ImportRefusal) : Type 0 where
   pub asked : checked t s c.body ≡ checks.Ask
   pub row : k ≡ refusal.Signature
@@ -129,10 +136,6 @@ Judges says t s c (Refused k) = (checked t s c.body ≡ checks.Refused k) ⊎ Is
 Judges says t s c (Next t' s' what) = IsNext says t s c t' s' what
 
 -- What stands in the chip after a certificate was judged so: what follows, or what was there.
-pub record Stands (t : Trust) (s : SessionValue) (t' : Trust) (s' : SessionValue) : Type 0 where
-  pub trust : t' ≡ t
-  pub session : s' ≡ s
-
 abbrev pub Stores : Trust → SessionValue → Judged → Trust → SessionValue → Type 0
 Stores t s Held t' s' = Stands t s t' s'
 Stores t s (Refused k) t' s' = Stands t s t' s'

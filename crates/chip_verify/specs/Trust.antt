@@ -4,6 +4,8 @@ use Rattle.std.specs.Prelude.{◌≡◌, ◌≢◌, ◌<◌, ℕ, List, [], ◌�
 use Rattle.eac_base.specs.Bytes.{is_empty}
 use Rattle.chat_rights.specs.declared.Role.TheVariants.{Cvca}
 use Rattle.signature_provider.specs.Key.{is_algorithm}
+use Rattle.signature_provider.specs.Provider.{PublicKey}
+use Rattle.cvc_grammar.specs.declared.certificate.CertBody.{CertBody}
 use Rattle.chip_verify.specs.declared.trust_point.TrustPoint.{TrustPoint}
 
 -- The chip's day and its points. The chip has no clock: its day is the latest effective date that it could rely on.
@@ -19,6 +21,10 @@ older_points (Some p) = p ∷ []
 -- The points, the newest first.
 abbrev pub points : Trust → List TrustPoint
 points t = t.newest ∷ older_points t.older
+
+-- The point that a certificate makes, with this key.
+abbrev pub certified : CertBody → PublicKey → TrustPoint
+certified c key = record { reference = c.holder; template = c.template; from = c.from; until = c.until; key = key }
 
 -- The first point comes before the second: their references differ, and it takes effect earlier.
 pub record ComesBefore (older newest : TrustPoint) : Type 0 where

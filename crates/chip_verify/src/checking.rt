@@ -1,13 +1,13 @@
 // What a certificate is before its signature is looked at.
-ghost use Rattle.std.specs.Prelude.{◌≡◌};
-ghost use Rattle.chat_rights.specs.Template as template;
+ghost use Rattle.std.specs.Prelude.{◌≡◌, ◌↔◌};
 ghost use Rattle.chip_verify.specs.Refusals as words;
+ghost use Rattle.chip_verify.specs.Refusals.{IsOwn};
 ghost use Rattle.chip_verify.specs.Views.{seen_body, Weighs};
 
 use crate::issuer::{Voucher, issuer_named};
-use crate::table::{first_refusal, is_link, is_same_algorithm, is_same_kind};
+use crate::same::{is_same_algorithm, is_same_template};
+use crate::table::{first_refusal, is_link};
 use crate::{Checked, ChipKey, ChipState, ImportRefusal, Session, TrustPoint};
-use chat_rights::{Role, Template};
 use cvc_grammar::CertView;
 use eac_base::is_same;
 use signature_provider::KeyView;
@@ -18,25 +18,6 @@ pub enum Weighed<'a> {
     Held,
     Refused(ImportRefusal),
     Ask(Voucher<'a>),
-}
-
-fn role_number(role: Role) -> u8
-    ensures { result ≡ template.role_number role }
-{
-    match role {
-        Role::Terminal => 0,
-        Role::Foreign => 1,
-        Role::Domestic => 2,
-        Role::Cvca => 3,
-    }
-}
-
-fn is_same_template(left: Template, right: Template) -> bool
-    ensures { result ≡ words.same_template left right }
-{
-    is_same_kind(left.kind, right.kind)
-        && role_number(left.role) == role_number(right.role)
-        && left.rights.bits() == right.rights.bits()
 }
 
 // The key is the point's, and names no other domain.
@@ -75,11 +56,12 @@ pub fn weigh<'a>(state: &'a ChipState, session: &'a Session, cert: &CertView) ->
     }
 }
 
-/// What a certificate is found to be by the rows 1 to 8 of the table, before its signature is looked at.
+/// What a certificate is found to be by all rows of the table but the last, before its signature is looked at.
 ///
 /// It is `Held` where all that a chip keeps of it is the newest trust point's, its domain being absent or equal. Else the
 /// first row that applies refuses it. Else it asks for the signature.
 pub fn check(state: &ChipState, session: &Session, cert: &CertView) -> Checked
+    ensures held { (result ≡ Checked.Held) ↔ IsOwn state.now.newest (seen_body cert.now) }
     ensures exact { result ≡ words.checked state.now session.now (seen_body cert.now) }
 {
     match weigh(state, session, cert) {

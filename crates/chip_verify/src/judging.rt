@@ -4,7 +4,7 @@ ghost use Rattle.eac_base.specs.Causes.{HasCause};
 ghost use Rattle.cvc_grammar.specs.Views.{seen_cert};
 ghost use Rattle.chip_verify.specs.declared.answers.Checked.TheVariants as checks;
 ghost use Rattle.chip_verify.specs.Refusals.{checked};
-ghost use Rattle.chip_verify.specs.Step.{Judges, Stands, Stores};
+ghost use Rattle.chip_verify.specs.Step.{Judges, Moves, Stands, Stores, verdict_on};
 ghost use Rattle.chip_verify.specs.Views.{IsView, MayBeTaken, seen_body, seen_issuer};
 
 use crate::checking::{Weighed, weigh};
@@ -100,6 +100,7 @@ pub fn import<P: SignatureProvider>(
     requires { IsView cert.now }
     ensures judged { IfOk result (Judges (P.says provider.old) state.old session.old (seen_cert cert.now)) }
     ensures stored { IfOk result (λ judged. Stores state.old session.old judged state.new session.new) }
+    ensures moves { IfOk result (λ _. Moves state.old session.old (seen_body cert.now) (verdict_on (P.says provider.old) state.old session.old (seen_cert cert.now)) state.new session.new) }
     ensures kept { OnErr result (Stands state.old session.old state.new session.new) }
     ensures failed { OnErr result (checked state.old session.old (seen_body cert.now) ≡ checks.Ask) }
     ensures unasked { checked state.old session.old (seen_body cert.now) ≢ checks.Ask → provider.new ≡ provider.old }

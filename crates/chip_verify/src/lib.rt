@@ -21,6 +21,8 @@ mod issuer;
 mod judging;
 pub mod laws;
 mod next;
+mod root;
+mod same;
 mod session;
 mod table;
 #[cfg(test)]

@@ -1,11 +1,8 @@
 // The trust and the session that follow from a certificate that is taken.
-ghost use Rattle.std.specs.Prelude.{◌≡◌, ◌≢◌, ◌<◌, ◌≤◌, max, length, IsSome, Some, None, IsTrue, not};
-ghost use Rattle.eac_base.specs.Bytes.{is_empty};
-ghost use Rattle.signature_provider.specs.Key.{is_algorithm};
-ghost use Rattle.chat_rights.specs.declared.Role.TheVariants.{Cvca, Terminal};
-ghost use Rattle.chip_verify.specs.Refusals.{sort_of, Link, OfVerifier, OfTerminal};
+ghost use Rattle.std.specs.Prelude.{◌≡◌, ◌≤◌, max, length};
+ghost use Rattle.chip_verify.specs.Refusals.{Link, OfTerminal};
 ghost use Rattle.chip_verify.specs.Step as words;
-ghost use Rattle.chip_verify.specs.Step.{trust_after, session_after, imported_as};
+ghost use Rattle.chip_verify.specs.Step.{trust_after};
 ghost use Rattle.chip_verify.specs.Session.{no_session};
 ghost use Rattle.chip_verify.specs.Views.{IsView, MayBeTaken, seen_body, seen_issuer};
 ghost use Rattle.chip_verify.specs.Following.{KeyFits, LinkFits, following};
@@ -41,13 +38,7 @@ fn new_point(cert: &CertView, issuer: Voucher) -> TrustPoint
     requires { KeyFits cert.now }
     ensures { result ≡ words.new_point (seen_body cert.now) (seen_issuer issuer.entry) }
 {
-    TrustPoint {
-        reference: cert.holder,
-        template: cert.template,
-        from: cert.from,
-        until: cert.until,
-        key: full_key(cert.key, issuer.key()),
-    }
+    TrustPoint::certified(cert, full_key(cert.key, issuer.key()))
 }
 
 fn verified(cert: &CertView, issuer: Voucher) -> Verified

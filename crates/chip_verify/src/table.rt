@@ -2,14 +2,14 @@
 ghost use Rattle.std.specs.Prelude.{◌≡◌, Some, not, ◌&&◌, nat_lt, nat_le};
 ghost use Rattle.std.specs.Str.{bytes_eq};
 ghost use Rattle.chip_verify.specs.Refusals as words;
-ghost use Rattle.chip_verify.specs.Refusals.{sort_of, until_of, template_of};
+ghost use Rattle.chip_verify.specs.Refusals.{sort_of, until_of};
 ghost use Rattle.chip_verify.specs.Views.{seen_body, seen_issuer};
 
 use crate::issuer::Voucher;
+use crate::same::{is_same_algorithm, is_same_kind};
 use crate::{ChipState, ImportRefusal};
-use chat_rights::{Kind, Role};
+use chat_rights::Role;
 use cvc_grammar::CertView;
-use signature_provider::Algorithm;
 
 pub fn is_link(role: Role) -> bool
     ensures { result ≡ words.is_link (sort_of role) }
@@ -18,20 +18,6 @@ pub fn is_link(role: Role) -> bool
         Role::Cvca => true,
         Role::Domestic | Role::Foreign | Role::Terminal => false,
     }
-}
-
-pub fn is_same_kind(left: Kind, right: Kind) -> bool
-    ensures { result ≡ words.same_kind left right }
-{
-    match (left, right) {
-        (Kind::Inspection, Kind::Inspection) => true,
-    }
-}
-
-pub fn is_same_algorithm(left: Algorithm, right: Algorithm) -> bool
-    ensures { result ≡ words.same_algorithm left right }
-{
-    left.arc == right.arc && left.last == right.last
 }
 
 fn has_wrong_role(cert: &CertView, issuer: Voucher) -> bool
