@@ -78,3 +78,7 @@ done_call step past told before now call = go call.steps
     go : ((now ≡ before + 1) × step (past before) (told now)) ⊎ ((now ≡ before) × (before ≡ 2 ^ 64 - 1) × (true ≡ false)) → step (past before) (told now)
     go (inl moved) = moved.1
     go (inr stop) = absurd (cc (stop.2))
+
+-- what holds of each image may be weakened
+pub works_map : (P Q : List ℕ → Type 0) → ((c : List ℕ) → P c → Q c) → (past told : ℕ → Standing) (a b : ℕ) → Works P past told a b → Works Q past told a b
+works_map P Q f past told a b work = record { later = work.later; keeps = work.keeps; images = λ m c from to crash. f c (work.images m c from to crash) }

@@ -1,5 +1,10 @@
 pub mod DeviceWork
 pub mod Greatest
-pub mod Records
+pub mod Looking
+pub mod NewState
+pub mod NextSlots
+pub mod RecordTexts
 pub mod Recordings
+pub mod Records
 pub mod SlotWrites
+pub mod Slots

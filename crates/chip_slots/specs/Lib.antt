@@ -1,5 +1,10 @@
+pub mod Chips
 pub mod Crash
+pub mod Found
+pub mod Gates
 pub mod Image
+pub mod Points
+pub mod Providers
 pub mod Ready
 pub mod Recorded
 pub mod RecordedSizes

@@ -1,5 +1,5 @@
 -- What stands on a disk between the device calls that write a new state (this project's own).
-use Rattle.std.specs.Prelude.{◌≡◌, ◌≢◌, ◌⊎◌, ◌<◌, ◌≤◌, ◌%◌, ◌++◌, ℕ, List, [], Some, true, false, length, IfSome}
+use Rattle.std.specs.Prelude.{◌≡◌, ◌≢◌, ◌⊎◌, ◌<◌, ◌≤◌, ◌+◌, ◌%◌, ◌++◌, ℕ, List, [], Some, true, false, length, IfSome}
 use Rattle.chip_verify.specs.Trust.{Trust}
 use Rattle.chip_slots.specs.Slot.{record_of}
 use Rattle.chip_slots.specs.Image.{Reading, is_memory, slots_in, gate, behind_gate, is_open, reads}
@@ -55,3 +55,7 @@ AreRecord slots slot bytes y = (rest : List ℕ) → record_of slots slot (bytes
 pub record IsStable (r : Reading) (s : Standing) : Type 0 where
   pub clean : IsClean s
   pub read : reads s.bytes ≡ r
+
+-- The generation is the one after what is read.
+abbrev pub IsFollowing : Reading → ℕ → Type 0
+IsFollowing old generation = IfSome old (λ x. generation ≡ x.1 + 1)
