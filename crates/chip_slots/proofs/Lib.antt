@@ -8,6 +8,7 @@ pub mod NextSlots
 pub mod RecordTexts
 pub mod Recordings
 pub mod Records
+pub mod Replaying
 pub mod RunsOfActs
 pub mod SlotWrites
 pub mod Slots

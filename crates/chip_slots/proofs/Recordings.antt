@@ -11,7 +11,7 @@ use Rattle.chip_slots.specs.declared.memory_disk.Step.TheVariants as step
 use Rattle.chip_slots.specs.Crash.{Standing, is_among, Reads, Writes, Syncs, DeviceCall}
 use Rattle.chip_slots.specs.Recorded.{Did, Idle, Wrote, Torn, Synced, over, put, after_call, played, fresh, DiskValue, told_by, stands_now, IsSame, IsCounted, writing, syncing}
 use Rattle.chip_slots.specs.RecordedSizes.{played_size, put_size}
-use Rattle.chip_slots.specs.Steps.{written, did_of, seen, all_written, KeepsNow, room}
+use Rattle.chip_slots.specs.Steps.{written, did_of, seen, all_written, KeepsNow, room, IsWithin, AreWithin}
 
 -- ---- what is written down
 
@@ -108,31 +108,40 @@ part_is at k from old copied same is fits =
 -- ---- the disk's own facts, kept by each call
 
 abbrev pub Whole : List ℕ → List Step → List ℕ → Option (List ℕ) → Type 0
-Whole first steps texts o = KeepsNow first (seen steps texts) o × (all_written steps ≡ length texts)
+Whole first steps texts o = KeepsNow first (seen steps texts) o × (all_written steps ≡ length texts) × AreWithin (length first) steps
+
+within_more : (bytes : ℕ) (steps : List Step) (s : Step) → AreWithin bytes steps → IsWithin bytes s → AreWithin bytes (steps ++ s ∷ [])
+within_more bytes [] s are is = (is, tt)
+within_more bytes (p ∷ steps) s are is = (are.0, within_more bytes steps s are.1 is)
+
+within_next : (bytes : ℕ) (steps steps' : List Step) (s : Step) → AreWithin bytes steps → IsWithin bytes s → steps' ≡ steps ++ s ∷ [] → AreWithin bytes steps'
+within_next bytes steps steps' s are is next = subst (AreWithin bytes) (sym next) (within_more bytes steps s are is)
 
 same_bytes : (o : Option (List ℕ)) → option_map (λ (b : List ℕ). b) o ≡ o
 same_bytes None = refl
 same_bytes (Some b) = refl
 
-plain_whole : (first : List ℕ) (steps steps' : List Step) (s : Step) (texts : List ℕ) (o : Option (List ℕ)) (a b : ℕ) → Whole first steps texts o → steps' ≡ steps ++ s ∷ [] → written s ≡ 0 → ((z : Standing) → option_map (λ bytes. (after_call (did_of s []) (record { bytes = bytes; pending = z.pending })).bytes) o ≡ o) → 0 < room o a b → Whole first steps' texts o
-plain_whole first steps steps' s texts o a b whole is plain moves more = (
+plain_whole : (first : List ℕ) (steps steps' : List Step) (s : Step) (texts : List ℕ) (o : Option (List ℕ)) (a b : ℕ) → Whole first steps texts o → steps' ≡ steps ++ s ∷ [] → written s ≡ 0 → ((z : Standing) → option_map (λ bytes. (after_call (did_of s []) (record { bytes = bytes; pending = z.pending })).bytes) o ≡ o) → 0 < room o a b → IsWithin (length first) s → Whole first steps' texts o
+plain_whole first steps steps' s texts o a b whole is plain moves more inside = (
   keeps_call first (seen steps texts) (seen steps' texts) (did_of s []) o o (has_bytes o a b more) (seen_plain steps steps' s texts whole.1 is) whole.0 moves,
   ap all_written is ∙ all_more steps s ∙ omega (arith, whole.1, plain),
+  within_next (length first) steps steps' s whole.2 inside is,
 )
 
 pub idle_whole : (first : List ℕ) (steps steps' : List Step) (texts : List ℕ) (o : Option (List ℕ)) (a b : ℕ) → Whole first steps texts o → steps' ≡ steps ++ step.Idle ∷ [] → 0 < room o a b → Whole first steps' texts o
-idle_whole first steps steps' texts o a b whole is more = plain_whole first steps steps' step.Idle texts o a b whole is refl (λ z. same_bytes o) more
+idle_whole first steps steps' texts o a b whole is more = plain_whole first steps steps' step.Idle texts o a b whole is refl (λ z. same_bytes o) more tt
 
-pub torn_whole : (first : List ℕ) (steps steps' : List Step) (at size : ℕ) (texts : List ℕ) (o : Option (List ℕ)) (a b : ℕ) → Whole first steps texts o → steps' ≡ steps ++ step.Torn at size ∷ [] → 0 < room o a b → Whole first steps' texts o
-torn_whole first steps steps' at size texts o a b whole is more = plain_whole first steps steps' (step.Torn at size) texts o a b whole is refl (λ z. same_bytes o) more
+pub torn_whole : (first : List ℕ) (steps steps' : List Step) (at size : ℕ) (texts : List ℕ) (o : Option (List ℕ)) (a b : ℕ) → Whole first steps texts o → steps' ≡ steps ++ step.Torn at size ∷ [] → 0 < room o a b → at + size ≤ length first → Whole first steps' texts o
+torn_whole first steps steps' at size texts o a b whole is more inside = plain_whole first steps steps' (step.Torn at size) texts o a b whole is refl (λ z. same_bytes o) more inside
 
 pub synced_whole : (first : List ℕ) (steps steps' : List Step) (texts : List ℕ) (o : Option (List ℕ)) (a b : ℕ) → Whole first steps texts o → steps' ≡ steps ++ step.Synced ∷ [] → 0 < room o a b → Whole first steps' texts o
-synced_whole first steps steps' texts o a b whole is more = plain_whole first steps steps' step.Synced texts o a b whole is refl (λ z. same_bytes o) more
+synced_whole first steps steps' texts o a b whole is more = plain_whole first steps steps' step.Synced texts o a b whole is refl (λ z. same_bytes o) more tt
 
-pub wrote_whole : (first : List ℕ) (steps steps' : List Step) (at : ℕ) (texts texts' from : List ℕ) (o o' : Option (List ℕ)) (a b : ℕ) → Whole first steps texts o → steps' ≡ steps ++ step.Wrote at (length from) ∷ [] → texts' ≡ texts ++ from → o' ≡ option_map (λ (bytes : List ℕ). put at from bytes) o → 0 < room o a b → Whole first steps' texts' o'
-wrote_whole first steps steps' at texts texts' from o o' a b whole is are moved more = (
+pub wrote_whole : (first : List ℕ) (steps steps' : List Step) (at : ℕ) (texts texts' from : List ℕ) (o o' : Option (List ℕ)) (a b : ℕ) → Whole first steps texts o → steps' ≡ steps ++ step.Wrote at (length from) ∷ [] → texts' ≡ texts ++ from → o' ≡ option_map (λ (bytes : List ℕ). put at from bytes) o → 0 < room o a b → at + length from ≤ length first → Whole first steps' texts' o'
+wrote_whole first steps steps' at texts texts' from o o' a b whole is are moved more inside = (
   keeps_call first (seen steps texts) (seen steps' texts') (Wrote at from) o o' (has_bytes o a b more) (seen_wrote steps steps' at texts texts' from whole.1 is are) whole.0 (λ z. sym moved),
   ap all_written is ∙ all_more steps (step.Wrote at (length from)) ∙ omega (arith, whole.1, ap length are, length-append texts from),
+  within_next (length first) steps steps' (step.Wrote at (length from)) whole.2 inside is,
 )
 
 -- ---- bytes behind a view
@@ -169,7 +178,7 @@ one_call v v' d ok step same more moves = record {
         ∙ played_more (fresh v.first) v.done d
         ∙ ap (after_call d) (sym before)
 
-out_or_in : (i at size : ℕ) → is_among i ((at, size) ∷ []) ≡ false → (i < at) ⊎ (at + size ≤ i)
+pub out_or_in : (i at size : ℕ) → is_among i ((at, size) ∷ []) ≡ false → (i < at) ⊎ (at + size ≤ i)
 out_or_in i at size out = ⊎_elim
     (λ (low : i < at). inl low)
     (λ (from : at ≤ i). ⊎_elim
@@ -197,7 +206,7 @@ put_there (suc at) bytes (o ∷ old) i fits lt =
     let next : suc at + i ≡ suc (at + i) = omega arith in
     ap (slice_index (o ∷ put at bytes old)) next ∙ put_there at bytes old i (omega (arith, fits)) lt
 
-put_out : (at : ℕ) (bytes old : List ℕ) (i : ℕ) → (i < at) ⊎ (at + length bytes ≤ i) → slice_index (put at bytes old) i ≡ slice_index old i
+pub put_out : (at : ℕ) (bytes old : List ℕ) (i : ℕ) → (i < at) ⊎ (at + length bytes ≤ i) → slice_index (put at bytes old) i ≡ slice_index old i
 put_out zero bytes old i (inl low) = absurd (omega (arith, low))
 put_out zero bytes old i (inr high) = over_past bytes old i (omega (arith, high))
 put_out (suc at) bytes [] i out = refl

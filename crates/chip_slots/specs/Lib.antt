@@ -11,5 +11,6 @@ pub mod Providers
 pub mod Ready
 pub mod Recorded
 pub mod RecordedSizes
+pub mod Replays
 pub mod Slot
 pub mod Steps

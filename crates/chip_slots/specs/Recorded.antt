@@ -1,8 +1,8 @@
 -- A disk in memory, which keeps all its device calls (this project's own).
-use Rattle.std.specs.Prelude.{◌≡◌, ◌⊎◌, ◌≤◌, ◌+◌, ◌-◌, ◌^◌, ℕ, zero, suc, List, [], ◌∷◌, min, length, take, Bool, true, false, Some, None, if◌then◌else◌}
+use Rattle.std.specs.Prelude.{◌≡◌, ◌⊎◌, ◌≤◌, ◌+◌, ◌-◌, ◌^◌, ℕ, zero, suc, List, [], ◌∷◌, min, length, take, Bool, true, false, Some, None, replicate}
 use Rattle.std.specs.declared.option.Option.{Option}
 use Rattle.eac_base.specs.Planned.{IsPlanned}
-use Rattle.chip_slots.specs.Crash.{Standing, is_among}
+use Rattle.chip_slots.specs.Crash.{Standing}
 
 -- ---- what a call did
 
@@ -91,10 +91,11 @@ pub record IsCounted (old new : DiskValue) : Type 0 where
 
 -- ---- a crash
 
--- This byte stands in each pending place, and elsewhere what a read gives.
-abbrev pub torn_from : ℕ → ℕ → List (ℕ × ℕ) → List ℕ → List ℕ
-torn_from torn i pending [] = []
-torn_from torn i pending (b ∷ bytes) = (if is_among i pending then torn else b) ∷ torn_from torn (i + 1) pending bytes
+-- This byte stands in each of the ranges, the newest of which comes first.
+abbrev pub torn_over : ℕ → List (ℕ × ℕ) → List ℕ → List ℕ
+torn_over torn [] bytes = bytes
+torn_over torn (r ∷ rs) bytes = put r.0 (replicate r.1 torn) (torn_over torn rs bytes)
 
+-- The image with this byte in each place that a crash may change.
 abbrev pub torn_image : ℕ → Standing → List ℕ
-torn_image torn s = torn_from torn 0 s.pending s.bytes
+torn_image torn s = torn_over torn s.pending s.bytes

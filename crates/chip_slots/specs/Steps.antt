@@ -1,5 +1,5 @@
 -- How a disk in memory writes its calls down: the bytes of all its writes lie one behind another.
-use Rattle.std.specs.Prelude.{◌≡◌, ◌+◌, ◌/◌, ℕ, List, [], ◌∷◌, min, length, take, drop, Some, None}
+use Rattle.std.specs.Prelude.{◌≡◌, ◌≤◌, ◌+◌, ◌/◌, ℕ, List, [], ◌∷◌, min, length, take, drop, Some, None}
 use Rattle.std.specs.declared.option.Option.{Option}
 use Rattle.chip_slots.specs.declared.memory_disk.Step.{Step}
 use Rattle.chip_slots.specs.declared.memory_disk.Step.TheVariants as step
@@ -35,3 +35,19 @@ KeepsNow first done (Some now) = now ≡ (played (fresh first) done).bytes
 abbrev pub room : Option (List ℕ) → ℕ → ℕ → ℕ
 room None calls bytes = 0
 room (Some now) calls bytes = min calls (bytes / 8192)
+
+-- A write lies within so many bytes.
+abbrev pub IsWithin : ℕ → Step → Type 0
+IsWithin bytes step.Idle = Unit {0}
+IsWithin bytes (step.Wrote at size) = at + size ≤ bytes
+IsWithin bytes (step.Torn at size) = at + size ≤ bytes
+IsWithin bytes step.Synced = Unit {0}
+
+abbrev pub AreWithin : ℕ → List Step → Type 0
+AreWithin bytes [] = Unit {0}
+AreWithin bytes (s ∷ steps) = IsWithin bytes s × AreWithin bytes steps
+
+-- The same of ranges.
+abbrev pub AreRanges : ℕ → List (ℕ × ℕ) → Type 0
+AreRanges bytes [] = Unit {0}
+AreRanges bytes (r ∷ ranges) = (r.0 + r.1 ≤ bytes) × AreRanges bytes ranges

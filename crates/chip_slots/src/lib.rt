@@ -12,6 +12,7 @@ mod memory_disk;
 mod memory_reading;
 mod record_reading;
 mod record_writing;
+mod replay;
 mod storing;
 
 pub use answers::{ChipRefusal, MakeRefusal};

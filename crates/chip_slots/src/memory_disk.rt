@@ -2,17 +2,18 @@
 ghost use Rattle.std.specs.Prelude.{◌≡◌, ◌≤◌, ◌<◌, ◌+◌, ◌-◌, ◌++◌, ◌∷◌, ◌↔◌, ◌⊎◌, [], vec_len, vec_capacity, ℕ, length, Some, None, OnOk, IfOk, IfSome, option_map, OnErr, IsErr, IsTrue, is_ok, slice_range};
 ghost use Rattle.eac_base.specs.Causes.{HasCause};
 ghost use Rattle.eac_base.specs.Planned.{IsPlanned};
-ghost use Rattle.chip_slots.specs.Crash.{Reads, Writes, Syncs, DeviceCall};
-ghost use Rattle.chip_slots.specs.Recorded.{Idle, Wrote, Torn, Synced, DiskValue, told_by, put, FailsNext, IsStopped, IsSame, IsCounted, stands_now, writing, syncing};
+ghost use Rattle.chip_slots.specs.Crash.{Crash, Reads, Writes, Syncs, DeviceCall};
+ghost use Rattle.chip_slots.specs.Recorded.{Idle, Wrote, Torn, Synced, DiskValue, told_by, put, FailsNext, IsStopped, IsSame, IsCounted, stands_now, writing, syncing, torn_image};
 
 use crate::ChipDisk;
+use crate::replay::image_of;
 use eac_base::{FailPlan, Failed, NoMemory, Octets, counted};
 use std::alloc::Global;
 use std::marker::Model;
 
 /// A device call as it is written down.
 #[derive(Clone, Copy, Debug, PartialEq, Eq)]
-enum Step {
+pub enum Step {
     /// A reading, or a sync that failed.
     Idle,
     /// A write of so many bytes at a place.
@@ -40,7 +41,7 @@ pub struct MemoryDisk {
 impl Model for MemoryDisk {
     ghost use Rattle.std.specs.Prelude.{◌≡◌, ◌-◌, length, vec_len, vec_capacity, option_map};
     ghost use Rattle.chip_slots.specs.Recorded.{DiskValue};
-    ghost use Rattle.chip_slots.specs.Steps.{seen, all_written, KeepsNow, room};
+    ghost use Rattle.chip_slots.specs.Steps.{seen, all_written, KeepsNow, room, AreWithin};
 
     ghost Value = { DiskValue };
 
@@ -53,7 +54,7 @@ impl Model for MemoryDisk {
       spare = room (option_map (λ v. v.items) d.bytes) (vec_capacity d.steps - vec_len d.steps) (vec_capacity d.texts - vec_len d.texts);
     } };
 
-    ghost invariant = { λ d. KeepsNow d.first (seen d.steps.items d.texts.items) (option_map (λ v. v.items) d.bytes) × (all_written d.steps.items ≡ length d.texts.items) };
+    ghost invariant = { λ d. KeepsNow d.first (seen d.steps.items d.texts.items) (option_map (λ v. v.items) d.bytes) × (all_written d.steps.items ≡ length d.texts.items) × AreWithin (length d.first) d.steps.items };
 }
 
 // Writes a step down where there is room.
@@ -92,7 +93,8 @@ fn is_to_fail(plan: &FailPlan, stop_after: Option<u64>, calls: u64) -> bool
     planned || is_stopped(stop_after, calls)
 }
 
-fn place(bytes: &mut [u8], at: usize, from: &[u8])
+/// The bytes with these in their place.
+pub fn place(bytes: &mut [u8], at: usize, from: &[u8])
     requires { at + length from.now ≤ length bytes.old }
     ensures { bytes.new ≡ put at from.now bytes.old }
 {
@@ -143,6 +145,26 @@ impl MemoryDisk {
         }
     }
 
+    /// The image with the byte `torn` in each place that a crash at this moment may change.
+    ///
+    /// # Errors
+    ///
+    /// [`NoMemory`] where memory is wanting.
+    pub fn crashed(&self, alloc: Global, moment: u64, torn: u8) -> Result<Octets, NoMemory>
+        requires { moment ≤ length self.now.done }
+        ensures image { IfOk result (λ o. o ≡ torn_image torn (told_by self.now moment)) }
+        ensures crash { IfOk result (λ o. Crash (told_by self.now moment) o) }
+    {
+        let steps = self.steps.as_slice();
+        image_of(
+            alloc,
+            self.first.as_slice(),
+            &steps[..moment as usize],
+            self.texts.as_slice(),
+            torn,
+        )
+    }
+
     // Whether the next call is to fail.
     fn fails(&self) -> bool
         ensures { IsTrue result ↔ FailsNext self.now }
@@ -167,7 +189,8 @@ impl MemoryDisk {
 
     // A write that failed.
     fn torn(&mut self, at: u64, size: u64)
-        requires { 0 < self.old.spare }
+        requires spare { 0 < self.old.spare }
+        requires range { at + size ≤ length self.old.first }
         ensures done { self.new.done ≡ self.old.done ++ Torn at size ∷ [] }
         ensures kept { IsSame self.old self.new }
         ensures spare { self.old.spare - 1 ≤ self.new.spare }
