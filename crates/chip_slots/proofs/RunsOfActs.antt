@@ -6,9 +6,10 @@ use Rattle.std.specs.Prelude.{option_map}
 use Rattle.chip_slots.specs.Image.{Reading, trust_read}
 use Rattle.chip_slots.specs.Ready.{Works, ReadsEither, IsStable}
 use Rattle.chip_slots.specs.Found.{IsLookedAt}
+use Rattle.chip_slots.specs.Chips.{IsFirstWritten}
 use Rattle.chip_slots.proofs.DeviceWork.{clean_image, own_image}
 use Rattle.chip_slots.specs.Crash.{Standing, Crash}
-use Rattle.chip_slots.specs.Acts.{Deed, Settling, Answered, Unsettled, Found, Lost, Act, does, after, trust_of, MayStand, MayMiss, IsTaken, IsSure, IsKnown, NoneSure, Fits}
+use Rattle.chip_slots.specs.Acts.{Deed, Made, Opened, ChipAfter, Settling, Answered, Unsettled, Found, Lost, Act, does, after, trust_of, MayStand, MayMiss, IsTaken, IsSure, IsKnown, NoneSure, Fits}
 use Rattle.chip_slots.specs.Moments.{MayRead, act, Kept, Open}
 
 -- so it fits: it is read after some of the acts that were taken by then
@@ -252,3 +253,39 @@ module _ (told told' : ℕ → Standing) (first n1 n2 : ℕ) (acts taken : List 
           go : ((trust_read (told n1).bytes ≡ trust_of (after taken)) ⊎ (trust_read (told n1).bytes ≡ trust_of (does deed (after taken)))) → Kept told' first n2 (act deed n0 to (Found n2) ∷ acts) (act deed n0 to (Found n2) ∷ taken) ⊎ Kept told' first n2 (act deed n0 to (Lost n2) ∷ acts) taken
           go (inl old) = inr (lost told told' first n1 n2 acts taken deed n0 to k looked.works.later more looked.works.keeps during (λ c crash. now_read c crash ∙ old))
           go (inr new) = inl (found told told' first n1 n2 acts taken deed n0 to k looked.works.later more looked.works.keeps during (λ c crash. now_read c crash ∙ new))
+
+-- ---- openings and makings as acts
+
+opened_same : (o : ChipAfter) → trust_of o ≡ trust_of (does Opened o)
+opened_same None = refl
+opened_same (Some ts) = refl
+
+pub opened_act : (told told' : ℕ → Standing) (first n0 n1 : ℕ) (acts taken : List Act) → Kept told first n0 acts taken → IsLookedAt told told' n0 n1 → Kept told' first n1 (act Opened n0 n1 Answered ∷ acts) (act Opened n0 n1 Answered ∷ taken)
+opened_act told told' first n0 n1 acts taken k looked = next_act told told' first n0 n1 acts taken Opened k looked.works.later looked.works.keeps
+    (λ m c more less crash. inl (k.now c (looked.works.images m c (omega (arith, more)) (omega (arith, less)) crash)))
+    (λ c crash. k.now c (looked.works.images n1 c looked.works.later (omega arith) crash) ∙ opened_same (after taken))
+
+module _ (told told' : ℕ → Standing) (first n0 n1 : ℕ) (acts taken : List Act) (t : Trust) (k : Kept told first n0 acts taken) (none : trust_of (after taken) ≡ None) (f : IsFirstWritten t told told' n0 n1) where
+  first_later : n0 ≤ n1
+  first_later = omega (arith, f.looked.works.later, f.writes.later)
+
+  first_keeps : (m : ℕ) → m ≤ n0 → told' m ≡ told m
+  first_keeps m le = f.writes.keeps m (omega (arith, le, f.looked.works.later)) ∙ f.looked.works.keeps m le
+
+  first_images : (m : ℕ) (c : List ℕ) → n0 < m → m ≤ n1 → Crash (told' m) c → (trust_read c ≡ trust_of (after taken)) ⊎ (trust_read c ≡ trust_of (does (Made t) (after taken)))
+  first_images m c more less crash = ⊎_elim
+      (λ (late : f.found < m). either (f.writes.images m c (omega (arith, late)) less crash))
+      (λ (le : m ≤ f.found). inl (k.now c (f.looked.works.images m c (omega (arith, more)) le (subst (λ (s : Standing). Crash s c) (f.writes.keeps m le) crash))))
+      (cases_lt f.found m)
+    where
+      either : ReadsEither None (Some (t, 0)) c → (trust_read c ≡ trust_of (after taken)) ⊎ (trust_read c ≡ trust_of (does (Made t) (after taken)))
+      either (inl old) = inl (ap trust_in_reading old ∙ sym none)
+      either (inr new) = inr (ap trust_in_reading new)
+
+  pub made_act : IsStable (Some (t, 0)) (told' n1) → Kept told' first n1 (act (Made t) n0 n1 Answered ∷ acts) (act (Made t) n0 n1 Answered ∷ taken)
+  made_act stable = next_act told told' first n0 n1 acts taken (Made t) k first_later first_keeps
+      (λ m c more less crash. first_images m c more (omega (arith, less)) crash)
+      (λ c crash. ap trust_read (clean_image (told' n1) c stable.clean crash) ∙ ap trust_in_reading stable.read)
+
+  pub made_open : Open told' first n1 acts taken (Made t) n0 n1
+  made_open = open_act told told' first n0 n1 acts taken (Made t) k first_later first_keeps first_images

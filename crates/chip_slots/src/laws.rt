@@ -1,5 +1,5 @@
 // What holds of memories and their images. Each law is the contract of a function that does nothing.
-ghost use Rattle.std.specs.Prelude.{◌≡◌, ◌⊎◌, ◌*◌, ◌^◌, ◌<◌, ◌%◌, ◌==◌, ◌∷◌, ◌++◌, [], ℕ, List, Bool, true, Some, IsTrue, option_map};
+ghost use Rattle.std.specs.Prelude.{◌≡◌, ◌⊎◌, ◌*◌, ◌^◌, ◌<◌, ◌%◌, ◌==◌, ◌∷◌, ◌++◌, [], ℕ, List, Bool, true, Some, None, IsTrue, option_map};
 ghost use Rattle.std.specs.declared.result.Result.{Result};
 ghost use Rattle.signature_provider.specs.Provider.{Says};
 ghost use Rattle.chip_verify.specs.declared.answers.Imported.{Imported};
@@ -13,8 +13,8 @@ ghost use Rattle.chip_slots.specs.Crash.{Standing, Crash, Writes, IsClean};
 ghost use Rattle.chip_slots.specs.Image.{Reading, reads, trust_read};
 ghost use Rattle.chip_slots.specs.Ready.{IsReady, IsMore, Works, ReadsEither, IsStable};
 ghost use Rattle.chip_slots.specs.Found.{IsLookedAt};
-ghost use Rattle.chip_slots.specs.Chips.{ChipValue, Imports};
-ghost use Rattle.chip_slots.specs.Acts.{Act, Deed, Given, Answered, Found, Lost, Fits, does, after, trust_of, NoMaking, IsSure, IsTaken};
+ghost use Rattle.chip_slots.specs.Chips.{ChipValue, Imports, IsFirstWritten};
+ghost use Rattle.chip_slots.specs.Acts.{Act, Deed, Made, Opened, Given, Answered, Found, Lost, Fits, does, after, trust_of, NoMaking, IsSure, IsTaken};
 ghost use Rattle.chip_slots.specs.ActsOf.{verdict_of, IsActOf};
 ghost use Rattle.chip_slots.specs.Moments.{MayRead, Kept, Open, act};
 
@@ -95,3 +95,17 @@ pub fn a_replaced_point_never_returns()
     trust_never_goes_back();
     later_never_goes_back();
 }
+
+/// An opening is an act: it empties the session and keeps what the memory reads as.
+pub fn an_opening_is_an_act()
+    ensures { (told told' : ℕ → Standing) (first n0 n1 : ℕ) (acts taken : List Act) → Kept told first n0 acts taken → IsLookedAt told told' n0 n1 →
+        Kept told' first n1 (act Opened n0 n1 Answered ∷ acts) (act Opened n0 n1 Answered ∷ taken) }
+{}
+
+/// A making on a memory that reads as none is an act, which is kept once it is answered, and left open by a device failure.
+pub fn a_making_is_an_act()
+    ensures kept { (told told' : ℕ → Standing) (first n0 n1 : ℕ) (acts taken : List Act) (t : Trust) → Kept told first n0 acts taken → trust_of (after taken) ≡ None →
+        IsFirstWritten t told told' n0 n1 → IsStable (Some (t, 0)) (told' n1) → Kept told' first n1 (act (Made t) n0 n1 Answered ∷ acts) (act (Made t) n0 n1 Answered ∷ taken) }
+    ensures left { (told told' : ℕ → Standing) (first n0 n1 : ℕ) (acts taken : List Act) (t : Trust) → Kept told first n0 acts taken → trust_of (after taken) ≡ None →
+        IsFirstWritten t told told' n0 n1 → Open told' first n1 acts taken (Made t) n0 n1 }
+{}
