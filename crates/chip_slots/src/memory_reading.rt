@@ -98,7 +98,8 @@ fn read_slots<D: ChipDisk>(disk: &mut D, slots: u64) -> Result<Option<Stored>, F
     Ok(best)
 }
 
-fn read_stable<D: ChipDisk>(disk: &mut D) -> Result<Option<Stored>, Failed>
+/// What a memory reads as. Nothing is made stable.
+pub fn read_stable<D: ChipDisk>(disk: &mut D) -> Result<Option<Stored>, Failed>
     requires { 16 ≤ D.spare disk.old }
     ensures found { IfOk result (λ r. D.tells disk.old → seen r ≡ reads (D.told disk.old (D.moment disk.old)).bytes) }
     ensures memory { IfOk result (λ r. IfSome r (λ s. words.is_memory (D.size disk.old) ≡ true)) }
