@@ -32,7 +32,7 @@ impl Model for Setup {
 
 impl Setup {
     /// No parties and no registrations.
-    pub(crate) fn new(alloc: Global) -> Setup
+    pub fn new(alloc: Global) -> Setup
         ensures { result ≡ roster_of [] [] }
     {
         Setup {

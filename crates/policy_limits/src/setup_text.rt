@@ -94,8 +94,12 @@ fn add(setup: &mut Setup, line: SetupLine) -> Result<(), NoMemory>
     }
 }
 
-/// Adds what the line of this number says, or names the first rule that it breaks and adds nothing.
-fn take_line(setup: &mut Setup, number: u64, line: &[u8]) -> Result<(), SetupRefusal>
+/// Adds what the line of this number says, behind the lines that made the setup.
+///
+/// # Errors
+///
+/// The first rule that the line breaks, or want of memory, as at [`read_setup`]. The setup is then as it was.
+pub fn take_line(setup: &mut Setup, number: u64, line: &[u8]) -> Result<(), SetupRefusal>
     ensures taken { OnOk result (words.with_line setup.old (number, line.now) ≡ Ok setup.new) }
     ensures refused { IfErr result (λ e. Refuses (words.rule_of e) (words.with_line setup.old (number, line.now))) }
     ensures kept { OnErr result (setup.new ≡ setup.old) }
