@@ -170,14 +170,30 @@ const BEHIND_FIVE: [(&[u8], u64, u8); 46] = [
     (b"cvca FRCVCA ec 40 1096", 6, 1),
     (b"cvca FRCVCA ec 03 0366", 6, 1),
     // 1: a party that no earlier line names, or that can't have the part
-    (b"register FRCVCA DEDVBUND foreign 03 90 3 bare\ncvca FRCVCA ec 03 1096", 6, 1),
+    (
+        b"register FRCVCA DEDVBUND foreign 03 90 3 bare\ncvca FRCVCA ec 03 1096",
+        6,
+        1,
+    ),
     (b"register DECVCA FRDV1 foreign 03 90 3 bare", 6, 1),
     (b"register DEIS00001 DEDVBUND terminal 03 30 3 bare", 6, 1),
     (b"register DECVCA DEIS00001 domestic 03 90 3 bare", 6, 1),
     (b"register DEDVBUND DEIS00001 domestic 03 30 3 bare", 6, 1),
-    (b"register DEDVBUND DEIS00001 terminal 03 30 3 home:DECVCA", 6, 1),
-    (b"register DECVCA DEDVBUND foreign 03 90 3 home:DEDVBUND", 6, 1),
-    (b"register DEDVBUND DEIS00001 terminal 03 30 3 bare barred", 6, 1),
+    (
+        b"register DEDVBUND DEIS00001 terminal 03 30 3 home:DECVCA",
+        6,
+        1,
+    ),
+    (
+        b"register DECVCA DEDVBUND foreign 03 90 3 home:DEDVBUND",
+        6,
+        1,
+    ),
+    (
+        b"register DEDVBUND DEIS00001 terminal 03 30 3 bare barred",
+        6,
+        1,
+    ),
     // 1: no event line in the grammar
     (b"found DECVCA", 6, 1),
     (b"day 230229", 6, 1),
@@ -193,12 +209,20 @@ const BEHIND_FIVE: [(&[u8], u64, u8); 46] = [
     (b"dv DEDVBUND", 6, 3),
     (b"terminal DEDVBUND", 6, 3),
     (b"cvca DECVCA rsa 00 183", 6, 3),
-    (b"register DECVCA DEDVBUND foreign 00 14 1 bare suspended", 6, 3),
+    (
+        b"register DECVCA DEDVBUND foreign 00 14 1 bare suspended",
+        6,
+        3,
+    ),
     // 4: a setup line behind an event, an event before the first day
     (b"day 240101\ndv FRDV1", 7, 4),
     (b"day 240101\nterminal FRIS1", 7, 4),
     (b"day 240101\ncvca FRCVCA ec 03 1096", 7, 4),
-    (b"day 240101\nask DEDVBUND00001 0102\nregister DEDVBUND DEIS00001 terminal 03 30 3 bare", 8, 4),
+    (
+        b"day 240101\nask DEDVBUND00001 0102\nregister DEDVBUND DEIS00001 terminal 03 30 3 bare",
+        8,
+        4,
+    ),
     (b"ask DEDVBUND00001 0102\nday 240101", 6, 4),
     // the least of two rules
     (b"cvca DECVCA ec 40 1097", 6, 1),
@@ -206,7 +230,7 @@ const BEHIND_FIVE: [(&[u8], u64, u8); 46] = [
     (b"day 240101\ndv FR", 7, 1),
     (b"day 240101\ncvca FRCVCA ec 03 1097", 7, 2),
     (b"day 240101\ndv DEDVBUND", 7, 3),
-    // the first of two lines, and what is said twice after a line that is none
+    // the first of two lines
     (b"day 240101\ndv FRDV1\ndv FR", 7, 4),
     (b"dv DEDVBUND\ndv FR", 6, 3),
     (b"dv FRDV1\n# again\n\ndv FRDV1\n", 9, 3),

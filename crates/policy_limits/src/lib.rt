@@ -11,6 +11,7 @@
 //! What a desk does with a registration, and which certificate is its authority's, is left to the layers above.
 #![tactic(auto)]
 
+mod desks;
 mod limits;
 pub mod lines;
 pub mod numbers;

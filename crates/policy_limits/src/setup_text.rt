@@ -3,10 +3,12 @@ ghost use Rattle.std.specs.Prelude.{◌≡◌, IfErr, OnOk, OnErr, Ok, Err, IsTr
 ghost use Rattle.eac_base.specs.Answers.{Answers, Refuses};
 ghost use Rattle.policy_limits.specs.Roster as roster;
 ghost use Rattle.policy_limits.specs.SetupLine as grammar;
+ghost use Rattle.policy_limits.specs.declared.setup_line.SetupLine.TheVariants as said;
 ghost use Rattle.policy_limits.specs.SetupText as words;
 ghost use Rattle.policy_limits.specs.SetupText.{FirstIsNamed};
 ghost use Rattle.policy_limits.specs.Validity as limits;
 
+use crate::desks::with_more;
 use crate::limits::{maximum_days, minimum_days};
 use crate::lines::next_numbered;
 use crate::party::PartyKind;
@@ -81,6 +83,19 @@ fn is_new(setup: &Setup, line: &SetupLine) -> bool
     }
 }
 
+/// Adds the registration, or nothing where memory is wanting.
+fn add_registration(setup: &mut Setup, registration: Registration) -> Result<(), NoMemory>
+    requires fits { IsTrue (grammar.fits setup.old (said.Registration registration)) }
+    requires new { IsTrue (grammar.is_new setup.old (said.Registration registration)) }
+    ensures added { OnOk result (setup.new ≡ grammar.added setup.old (said.Registration registration)) }
+    ensures kept { OnErr result (setup.new ≡ setup.old) }
+{
+    let desks = with_more(setup.desks.take(), &registration);
+    setup.registrations.push(registration)?;
+    setup.desks = desks;
+    Ok(())
+}
+
 /// Adds what a line says, or nothing where memory is wanting.
 fn add(setup: &mut Setup, line: SetupLine) -> Result<(), NoMemory>
     requires fits { IsTrue (grammar.fits setup.old line) }
@@ -90,7 +105,7 @@ fn add(setup: &mut Setup, line: SetupLine) -> Result<(), NoMemory>
 {
     match line {
         SetupLine::Party(party) => setup.parties.push(party),
-        SetupLine::Registration(registration) => setup.registrations.push(registration),
+        SetupLine::Registration(registration) => add_registration(setup, registration),
     }
 }
 
