@@ -1,7 +1,6 @@
 -- What holds of scripts and their faults, whoever reads them.
 use Rattle.std.specs.Prelude.{◌≡◌, ◌≤◌, ℕ, List, [], ◌++◌, length, None, Ok}
-use Rattle.eac_base.specs.Text.{numbered_lines}
-use Rattle.policy_limits.specs.Roster.{Roster, IsRoster}
+use Rattle.policy_limits.specs.Roster.{Roster}
 use Rattle.policy_limits.specs.SetupText.{read_setup}
 use Rattle.eac_cli.specs.Script.{Line, lines_read, setup_lines, events_of, IsScript, IsFault, InOrder}
 use Rattle.eac_cli.specs.declared.event.EventLine.{EventLine}
@@ -33,6 +32,10 @@ pub record IsInTwoParts (lines : List Line) : Type 0 where
 -- All setup lines of a script stand before its events.
 abbrev pub SetupsComeFirst : Type 0
 SetupsComeFirst = (bytes : List ℕ) (setup : Roster) (events : List EventLine) → IsScript bytes setup events → IsInTwoParts (lines_read bytes)
+
+-- A text is a setup exactly where it is a script without events, and then it is the script's.
+abbrev pub SetupsAreScripts : Type 0
+SetupsAreScripts = (text : List ℕ) (setup : Roster) → (read_setup text ≡ Ok setup → IsScript text setup []) × (IsScript text setup [] → read_setup text ≡ Ok setup)
 
 -- Each event of a script is in its place.
 abbrev pub ScriptsAreInOrder : Type 0

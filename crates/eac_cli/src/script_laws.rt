@@ -1,5 +1,5 @@
 // What holds of every script and of every fault.
-ghost use Rattle.eac_cli.specs.ScriptLaws.{ScriptsAreFine, FaultIsOne, EventsAreOne, SetupIsOne, SetupsComeFirst, ScriptsAreInOrder, ScriptsAreShort};
+ghost use Rattle.eac_cli.specs.ScriptLaws.{ScriptsAreFine, FaultIsOne, EventsAreOne, SetupIsOne, SetupsAreScripts, SetupsComeFirst, ScriptsAreInOrder, ScriptsAreShort};
 
 /// Bytes that are a script have no fault.
 pub fn scripts_have_no_fault()
@@ -19,6 +19,11 @@ pub fn events_are_one()
 /// Bytes are a script of one setup at most.
 pub fn a_setup_is_one()
     ensures { SetupIsOne }
+{}
+
+/// A text is a setup exactly where it is a script without events, of the same setup.
+pub fn setups_are_scripts()
+    ensures { SetupsAreScripts }
 {}
 
 /// In every script all setup lines stand before all event lines.

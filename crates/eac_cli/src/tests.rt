@@ -197,7 +197,7 @@ const BEHIND_FIVE: [(&[u8], u64, u8); 46] = [
     // 1: no event line in the grammar
     (b"found DECVCA", 6, 1),
     (b"day 230229", 6, 1),
-    (b"day 240101\nask DEDVBUND 01", 7, 1),
+    (b"day 240101\nask DEDVBUND0000a 01", 7, 1),
     // 2: a setup line beyond a limit
     (b"cvca FRCVCA ec 03 182", 6, 2),
     (b"cvca FRCVCA rsa 3F 1097", 6, 2),
