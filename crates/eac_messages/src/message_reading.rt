@@ -1,0 +1,82 @@
+// Reading a call: each test is one step.
+ghost use Rattle.std.specs.Prelude.{◌≡◌, Ok, IfOk};
+ghost use Rattle.eac_base.specs.Answers.{Answers};
+ghost use Rattle.serde_json.specs.View.{view};
+ghost use Rattle.eac_messages.specs.Body.{refused_message};
+ghost use Rattle.eac_messages.specs.Message as words;
+ghost use Rattle.eac_messages.specs.Message.{IsMessage};
+ghost use Rattle.eac_messages.specs.declared.message.Message.{Message};
+
+use crate::base64_texts::{bytes_of, certificates_in};
+use crate::body::{id_in, object_in, text_at};
+use crate::message::Call;
+use crate::{Member, Message, MessageRefusal};
+use eac_base::Octets;
+use serde_json::Value;
+use std::alloc::Global;
+
+fn call_named(name: &str) -> Option<Call>
+    ensures { result ≡ words.call_named name.now }
+{
+    match name {
+        "RequestCertificate" => Some(Call::RequestCertificate),
+        "SendCertificates" => Some(Call::SendCertificates),
+        "GetCACertificates" => Some(Call::GetCaCertificates),
+        _ => None,
+    }
+}
+
+fn call_in(object: &Value) -> Result<Call, MessageRefusal>
+    ensures { Answers (λ c. c) (λ e. Some e) result (words.call_in (view object.now)) }
+{
+    let name = text_at(object, "call", Member::Call)?;
+    match call_named(name) {
+        Some(call) => Ok(call),
+        None => Err(MessageRefusal::Member(Member::Call)),
+    }
+}
+
+fn request_in(alloc: Global, id: Octets, object: &Value) -> Result<Message, MessageRefusal>
+    ensures { Answers (λ m. m) refused_message result (words.request_in id (view object.now)) }
+{
+    let text = text_at(object, "request", Member::Request)?;
+    let request = bytes_of(alloc, text, Member::Request)?;
+    Ok(Message::RequestCertificate { id, request })
+}
+
+fn sent_in(alloc: Global, id: Octets, object: &Value) -> Result<Message, MessageRefusal>
+    ensures { Answers (λ m. m) refused_message result (words.sent_in id (view object.now)) }
+{
+    let certificates = certificates_in(alloc, object)?;
+    Ok(Message::SendCertificates { id, certificates })
+}
+
+fn message_in(alloc: Global, object: &Value) -> Result<Message, MessageRefusal>
+    ensures { Answers (λ m. m) refused_message result (words.message_in (view object.now)) }
+{
+    let call = call_in(object)?;
+    let id = id_in(alloc, object)?;
+    match call {
+        Call::RequestCertificate => request_in(alloc, id, object),
+        Call::SendCertificates => sent_in(alloc, id, object),
+        Call::GetCaCertificates => Ok(Message::GetCaCertificates { id }),
+    }
+}
+
+fn message_of(alloc: Global, body: &[u8]) -> Result<Message, MessageRefusal>
+    ensures { Answers (λ m. m) refused_message result (words.read_message body.now) }
+{
+    let object = object_in(alloc, body)?;
+    message_in(alloc, &object)
+}
+
+/// The message that the whole body is.
+///
+/// The refusal is that of the first test that fails, in this order: the body is the JSON text of an object (`NotJson`);
+/// `call` is a text, one of the three names; `messageID` is left out or a text of at most 64 bytes; the call's own
+/// member is there, a text or an array of texts (`Member`); each of these texts is base64 (`Base64`).
+pub fn read_message(alloc: Global, body: &[u8]) -> Result<Message, MessageRefusal>
+    ensures exact { Answers (λ m. m) refused_message result (words.read_message body.now) }
+{
+    message_of(alloc, body)
+}
