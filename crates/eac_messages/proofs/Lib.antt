@@ -4,3 +4,4 @@ pub mod Floats
 pub mod ReadAgain
 pub mod WrittenBodies
 pub mod WrittenAgain
+pub mod FoundMembers

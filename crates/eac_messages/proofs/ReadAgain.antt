@@ -21,7 +21,7 @@ use Rattle.eac_messages.specs.declared.code.Code.TheVariants as kinds
 use Rattle.eac_messages.specs.declared.reply.Reply.{Reply}
 use Rattle.eac_messages.specs.Body.{Step, object_in, required, as_texts, texts_of, of_kind_or, id_of, id_in, IsIdOf}
 use Rattle.eac_messages.specs.Base64.{base64_text, base64_texts, AreAllBytes, bytes_of, all_bytes_of, certificates_in}
-use Rattle.eac_messages.specs.Message.{call_name, call_in, called_in, message_in, read_message, IsCallOf, HasMembersOf, IsMessage}
+use Rattle.eac_messages.specs.Message.{call_name, call_in, called_in, message_in, read_message, message_call, message_id, HasContentOf, HasMembersOf, IsMessage}
 use Rattle.eac_messages.specs.Code.{code_text, code_named, carries_certificates}
 use Rattle.eac_messages.specs.Reply as replies
 use Rattle.eac_messages.specs.Reply.{rule_of, rule_in, code_in, certificates_under, reply_in, read_reply, IsReply, IsRuleOf, AreCertificatesOf}
@@ -67,14 +67,16 @@ named_call calls.SendCertificates d is = rw is refl
 named_call calls.GetCaCertificates d is = rw is refl
 
 -- The steps after the name and the identifier.
-called : (call : Call) (id : List ℕ) (d : Data) → IsCallOf call id d → message_in d ≡ called_in call id d
-called call id d is = rw (named_call call d is.call_is, id_found id d is.id_is) refl
+called : (m : Message) (d : Data) → HasMembersOf m d → message_in d ≡ called_in (message_call m) (message_id m) d
+called m d has = rw (named_call (message_call m) d has.call_is, id_found (message_id m) d has.id_is) refl
+
+content_read : (m : Message) (d : Data) → HasContentOf m d → called_in (message_call m) (message_id m) d ≡ Ok m
+content_read (messages.RequestCertificate id request) d has = rw (has.0, text_decoded names.Request request has.1) refl
+content_read (messages.SendCertificates id certificates) d has = rw (certificates_found d certificates has.0 has.1) refl
+content_read (messages.GetCaCertificates id) d has = refl
 
 members_read : (m : Message) (d : Data) → HasMembersOf m d → message_in d ≡ Ok m
-members_read (messages.RequestCertificate id request) d has =
-    called calls.RequestCertificate id d has.0 ∙ rw (has.1, text_decoded names.Request request has.2) refl
-members_read (messages.SendCertificates id certificates) d has = called calls.SendCertificates id d has.0 ∙ rw (certificates_found d certificates has.1 has.2) refl
-members_read (messages.GetCaCertificates id) d has = called calls.GetCaCertificates id d has
+members_read m d has = called m d has ∙ content_read m d has.content_is
 
 pub message_is_read : (m : Message) (body : List ℕ) → IsMessage m body → read_message body ≡ Ok m
 message_is_read m body is = rw is.1 (members_read m is.0 is.2)
@@ -102,7 +104,7 @@ rule_at rule (Some d) is = rw (is.1, is.2, is.3) refl
 rule_found : (rule : Option ℕ) (d : Data) → IsRuleOf rule (get (codes "rule") d) → rule_in d ≡ Ok rule
 rule_found rule d is = rule_at rule (get (codes "rule") d) is
 
-certificates_at : (carries : Bool) (lists : List (List ℕ)) (d : Data) → AreCertificatesOf carries lists (get (codes "certificates") d) → (if carries then certificates_in d else Ok []) ≡ Ok lists
+certificates_at : (carries : Bool) (lists : List (List ℕ)) (d : Data) → AreCertificatesOf carries lists d → (if carries then certificates_in d else Ok []) ≡ Ok lists
 certificates_at true lists d is = certificates_found d lists is.0 is.1
 certificates_at false lists d is = rw is refl
 

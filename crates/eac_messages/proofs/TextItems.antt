@@ -1,19 +1,24 @@
 -- Items of an array that are texts, and the bytes of which they are the base64, one after another.
-use Rattle.std.proofs.Common.{◌≡◌, ℕ, List, [], ◌∷◌, ◌++◌, map, Option, Some, None, is_some, Bool, true, false, ◌&&◌, Result, Ok, Err, refl, ap, sym, ◌∙◌, ◌+◌, ◌<◌, length, drop, take, get_or, append_assoc, drop-cons, add-one}
-use Rattle.std.proofs.lemmas.List.{map_push, take_more}
+use Rattle.std.proofs.Common.{◌≡◌, ℕ, List, [], ◌∷◌, ◌++◌, map, Option, Some, None, is_some, Bool, true, false, ◌&&◌, Result, Ok, Err, refl, ap, sym, ◌∙◌, ◌+◌, ◌<◌, ◌≤◌, IfOk, subst, length, drop, take, get_or, append_assoc, drop-cons, add-one}
+use Rattle.std.proofs.lemmas.List.{map_push, take_more, take_all}
 use Rattle.std.specs.List.{slice_get}
 use Rattle.std.proofs.lemmas.Option.{slice_get_within, get_or_from_slice_get}
 use Rattle.std.specs.Prelude.{codes}
+use Rattle.eac_base.specs.Bytes.{AreBytes}
 use Rattle.eac_base.specs.Answers.{◌>>=◌, some_or, ◌gives◌}
-use Rattle.serde_json.specs.Data.{Data, Items, no_items, item, array}
+use Rattle.serde_json.specs.Data.{Data, null, boolean, number, string, object, Items, no_items, item, array}
 use Rattle.serde_json.specs.Find.{as_str, as_array, get}
 use Rattle.serde_json.specs.View.{view, items_of, items_view}
 use Rattle.serde_json.specs.declared.value.Value.{Value}
 use Rattle.eac_messages.specs.declared.refusal.Member.TheVariants as names
 use Rattle.eac_messages.specs.declared.refusal.MessageRefusal.TheVariants as refusals
 use Rattle.eac_messages.specs.Body.{Step, texts_of, required, as_texts}
-use Rattle.eac_messages.specs.Base64.{base64_text, base64_texts, bytes_of, all_bytes_of, certificates_in}
-use Rattle.eac_messages.specs.Steps.{item_bytes, items_bytes}
+use Rattle.eac_messages.specs.Base64.{base64_text, base64_texts, AreAllBytes, HasCertificates, bytes_of, all_bytes_of, certificates_in}
+use Rattle.eac_messages.specs.Steps.{item_bytes, items_bytes, IsSpelled, AreSpelled}
+
+pub values_of_lists : (lists : List (List ℕ)) → items_of (map base64_text lists) ≡ base64_texts lists
+values_of_lists [] = refl
+values_of_lists (bytes ∷ lists) = ap (item (base64_text bytes)) (values_of_lists lists)
 
 -- ---- which items are texts
 
@@ -58,6 +63,39 @@ bytes_kept done new bytes xs at v whole within here ok pushed so_far =
     let left : drop at xs ≡ v ∷ drop (at + 1) xs = drop-cons xs at v within ∙ ap (λ n. get_or xs at v ∷ drop n xs) (sym (add-one at)) ∙ ap (λ x. x ∷ drop (at + 1) xs) (sym here) in
     so_far ∙ ap (λ ys. after done (items_bytes (items_view ys))) left ∙ bytes_more done bytes v (drop (at + 1) xs) ok ∙ ap (λ lists. after lists (items_bytes (items_view (drop (at + 1) xs)))) (sym pushed)
 
+-- ---- which texts they are
+
+text_of : (d : Data) (text : List ℕ) → Some text ≡ as_str d → d ≡ string text
+text_of null text there = absurd (cc)
+text_of (boolean b) text there = absurd (cc)
+text_of (number n) text there = absurd (cc)
+text_of (string s) text there = let same : text ≡ s = cc in ap string (sym same)
+text_of (array ds) text there = absurd (cc)
+text_of (object ms) text there = absurd (cc)
+
+bytes_pushed : (lists : List (List ℕ)) (bytes : List ℕ) → AreAllBytes lists → AreBytes bytes → AreAllBytes (lists ++ bytes ∷ [])
+bytes_pushed [] bytes are is = (is, tt)
+bytes_pushed (first ∷ lists) bytes are is = (are.0, bytes_pushed lists bytes are.1 is)
+
+-- The first so many values are the texts of the lists.
+pub record AreTexts (values : List Value) (lists : List (List ℕ)) : Type 0 where
+  pub texts_are : map view values ≡ map base64_text lists
+  pub bytes_are : AreAllBytes lists
+
+pub texts_kept : (done new : List (List ℕ)) (text bytes : List ℕ) (xs : List Value) (at : ℕ) (v : Value) → at < length xs → v ≡ get_or xs at v → Some text ≡ as_str (view v)
+    → IsSpelled text bytes → new ≡ done ++ bytes ∷ [] → AreTexts (take at xs) done → AreTexts (take (at + 1) xs) new
+texts_kept done new text bytes xs at v within here there spelled pushed so_far =
+    let more : take (at + 1) xs ≡ take at xs ++ v ∷ [] = take_more xs at v within ∙ ap (λ x. take at xs ++ x ∷ []) (sym here) in
+    let this : view v ≡ base64_text bytes = text_of (view v) text there ∙ ap string spelled.text_is in
+    let grown : map view (take (at + 1) xs) ≡ map base64_text new = ap (map view) more ∙ map_push view (take at xs) v ∙ ap (λ ds. ds ++ view v ∷ []) so_far.texts_are
+    ∙ ap (λ d. map base64_text done ++ d ∷ []) this ∙ sym (ap (map base64_text) pushed ∙ map_push base64_text done bytes) in
+    record { texts_are = grown; bytes_are = subst AreAllBytes (sym pushed) (bytes_pushed done bytes so_far.bytes_are spelled.bytes_are) }
+
+pub all_spelled : (xs : List Value) (lists : List (List ℕ)) (at : ℕ) → length xs ≤ at → AreTexts (take at xs) lists → AreSpelled (items_view xs) lists
+all_spelled xs lists at past are =
+    let whole : take at xs ≡ xs = take_all at xs past in
+    record { items_are = ap items_of (sym (ap (map view) whole) ∙ are.texts_are) ∙ values_of_lists lists; bytes_are = are.bytes_are }
+
 -- Where all of them are texts, judging them one after another is judging the texts.
 texts_judged : (d : Data) (ds : Items) (texts : List (List ℕ)) (o : Option (List ℕ)) (r : Option (List (List ℕ))) → as_str d ≡ o → texts_of ds ≡ r
     → ((ts : List (List ℕ)) → texts_of ds ≡ Some ts → items_bytes ds ≡ all_bytes_of names.Certificates ts)
@@ -99,11 +137,22 @@ pub items_refused : (d : Data) (ds : Items) → required (codes "certificates") 
     → certificates_in d ≡ Err (refusals.Member names.Certificates)
 items_refused d ds there none = rw (array_there (get (codes "certificates") d) (refusals.Member names.Certificates) ds there) (no_texts (texts_of ds) none)
 
--- ---- the texts of lists
+array_found : (o : Option Data) (e : refusals.the_data) (ds : Items) → some_or (o gives as_array) e ≡ Ok ds → o ≡ Some (array ds)
+array_found None e ds is = absurd (cc)
+array_found (Some null) e ds is = absurd (cc)
+array_found (Some (boolean b)) e ds is = absurd (cc)
+array_found (Some (number n)) e ds is = absurd (cc)
+array_found (Some (string s)) e ds is = absurd (cc)
+array_found (Some (array found)) e ds is = let same : found ≡ ds = cc in ap (λ x. Some (array x)) same
+array_found (Some (object ms)) e ds is = absurd (cc)
 
-pub values_of_lists : (lists : List (List ℕ)) → items_of (map base64_text lists) ≡ base64_texts lists
-values_of_lists [] = refl
-values_of_lists (bytes ∷ lists) = ap (item (base64_text bytes)) (values_of_lists lists)
+pub certificates_spelled : (d : Data) (ds : Items) (r : Step (List (List ℕ))) → required (codes "certificates") as_array names.Certificates d ≡ Ok ds → IfOk r (AreSpelled ds)
+    → IfOk r (λ lists. HasCertificates lists d)
+certificates_spelled d ds (Err e) there spelled = tt
+certificates_spelled d ds (Ok lists) there spelled =
+    (array_found (get (codes "certificates") d) (refusals.Member names.Certificates) ds there ∙ ap (λ x. Some (array x)) spelled.items_are, spelled.bytes_are)
+
+-- ---- the texts of lists
 
 -- One more text is written.
 pub values_kept : (values new : List Value) (v : Value) (lists : List (List ℕ)) (at : ℕ) (bytes : List ℕ) → Some bytes ≡ slice_get lists at → view v ≡ base64_text bytes → new ≡ values ++ v ∷ []

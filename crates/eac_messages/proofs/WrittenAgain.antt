@@ -55,7 +55,6 @@ lists_same : (lists : List (List ℕ)) → of_items (items_outline (base64_texts
 lists_same [] = refl
 lists_same (bytes ∷ lists) = rw (lists_same lists) refl
 
-
 -- ---- messages
 
 request_written : (id request : List ℕ) → IsUtf8 id → IsWritten (object (message_members (messages.RequestCertificate id request)))
@@ -63,13 +62,13 @@ request_written [] request text = record {
   texts = (IsUtf8-are_ascii _ refl, (IsUtf8-are_ascii _ refl, (IsUtf8-are_ascii _ refl, (encoded_is_utf8 request, tt))));
   numbers = (tt, (tt, tt));
   flat = lit≤ tt;
-  same = refl
+  same = refl;
 }
 request_written (b ∷ id) request text = record {
   texts = (IsUtf8-are_ascii _ refl, (IsUtf8-are_ascii _ refl, (IsUtf8-are_ascii _ refl, (text, (IsUtf8-are_ascii _ refl, (encoded_is_utf8 request, tt))))));
   numbers = (tt, (tt, (tt, tt)));
   flat = lit≤ tt;
-  same = refl
+  same = refl;
 }
 
 sent_written : (id : List ℕ) (certificates : List (List ℕ)) → IsUtf8 id → IsWritten (object (message_members (messages.SendCertificates id certificates)))
@@ -77,13 +76,13 @@ sent_written [] certificates text = record {
   texts = (IsUtf8-are_ascii _ refl, (IsUtf8-are_ascii _ refl, (IsUtf8-are_ascii _ refl, (lists_are_utf8 certificates, tt))));
   numbers = (tt, (lists_have_numbers certificates, tt));
   flat = rw (lists_are_flat certificates) (lit≤ tt);
-  same = rw (lists_same certificates) refl
+  same = rw (lists_same certificates) refl;
 }
 sent_written (b ∷ id) certificates text = record {
   texts = (IsUtf8-are_ascii _ refl, (IsUtf8-are_ascii _ refl, (IsUtf8-are_ascii _ refl, (lists_are_utf8 certificates, (IsUtf8-are_ascii _ refl, (text, tt))))));
   numbers = (tt, (lists_have_numbers certificates, (tt, tt)));
   flat = rw (lists_are_flat certificates) (lit≤ tt);
-  same = rw (lists_same certificates) refl
+  same = rw (lists_same certificates) refl;
 }
 
 get_written : (id : List ℕ) → IsUtf8 id → IsWritten (object (message_members (messages.GetCaCertificates id)))
@@ -91,13 +90,13 @@ get_written [] text = record {
   texts = (IsUtf8-are_ascii _ refl, (IsUtf8-are_ascii _ refl, tt));
   numbers = (tt, tt);
   flat = lit≤ tt;
-  same = refl
+  same = refl;
 }
 get_written (b ∷ id) text = record {
   texts = (IsUtf8-are_ascii _ refl, (IsUtf8-are_ascii _ refl, (IsUtf8-are_ascii _ refl, (text, tt))));
   numbers = (tt, (tt, tt));
   flat = lit≤ tt;
-  same = refl
+  same = refl;
 }
 
 message_written : (m : Message) → IsUtf8 (message_id m) → IsWritten (object (message_members m))
@@ -105,26 +104,26 @@ message_written (messages.RequestCertificate id request) text = request_written 
 message_written (messages.SendCertificates id certificates) text = sent_written id certificates text
 message_written (messages.GetCaCertificates id) text = get_written id text
 
-request_members_there : (id request : List ℕ) → length id ≤ 64 → AreBytes request → HasMembersOf (messages.RequestCertificate id request) (object (message_members (messages.RequestCertificate id request)))
-request_members_there [] request size are = (record { call_is = refl; id_is = refl }, refl, are)
-request_members_there (b ∷ id) request size are = (record { call_is = refl; id_is = (refl, size) }, refl, are)
+request_there : (id request : List ℕ) → length id ≤ 64 → AreBytes request → HasMembersOf (messages.RequestCertificate id request) (object (message_members (messages.RequestCertificate id request)))
+request_there [] request size are = record { call_is = refl; id_is = refl; content_is = (refl, are) }
+request_there (b ∷ id) request size are = record { call_is = refl; id_is = (refl, size); content_is = (refl, are) }
 
-sent_members_there : (id : List ℕ) (certificates : List (List ℕ)) → length id ≤ 64 → AreAllBytes certificates
+sent_there : (id : List ℕ) (certificates : List (List ℕ)) → length id ≤ 64 → AreAllBytes certificates
     → HasMembersOf (messages.SendCertificates id certificates) (object (message_members (messages.SendCertificates id certificates)))
-sent_members_there [] certificates size are = (record { call_is = refl; id_is = refl }, refl, are)
-sent_members_there (b ∷ id) certificates size are = (record { call_is = refl; id_is = (refl, size) }, refl, are)
+sent_there [] certificates size are = record { call_is = refl; id_is = refl; content_is = (refl, are) }
+sent_there (b ∷ id) certificates size are = record { call_is = refl; id_is = (refl, size); content_is = (refl, are) }
 
-get_members_there : (id : List ℕ) → length id ≤ 64 → HasMembersOf (messages.GetCaCertificates id) (object (message_members (messages.GetCaCertificates id)))
-get_members_there [] size = record { call_is = refl; id_is = refl }
-get_members_there (b ∷ id) size = record { call_is = refl; id_is = (refl, size) }
+get_there : (id : List ℕ) → length id ≤ 64 → HasMembersOf (messages.GetCaCertificates id) (object (message_members (messages.GetCaCertificates id)))
+get_there [] size = record { call_is = refl; id_is = refl; content_is = tt }
+get_there (b ∷ id) size = record { call_is = refl; id_is = (refl, size); content_is = tt }
 
-message_members_there : (m : Message) → length (message_id m) ≤ 64 → CarriesBytes m → HasMembersOf m (object (message_members m))
-message_members_there (messages.RequestCertificate id request) size are = request_members_there id request size are
-message_members_there (messages.SendCertificates id certificates) size are = sent_members_there id certificates size are
-message_members_there (messages.GetCaCertificates id) size are = get_members_there id size
+members_there : (m : Message) → length (message_id m) ≤ 64 → CarriesBytes m → HasMembersOf m (object (message_members m))
+members_there (messages.RequestCertificate id request) size are = request_there id request size are
+members_there (messages.SendCertificates id certificates) size are = sent_there id certificates size are
+members_there (messages.GetCaCertificates id) size are = get_there id size
 
 pub message_is_written : (m : Message) → CanBeCalled m → CarriesBytes m → IsMessage m (message_text m)
-message_is_written m can are = (object (message_members m), object_again (message_members m) (message_written m can.text), message_members_there m can.size are)
+message_is_written m can are = (object (message_members m), object_again (message_members m) (message_written m can.text), members_there m can.size are)
 
 -- ---- replies, whatever their code's text is and whether they carry certificates
 
@@ -187,7 +186,7 @@ members_written carries text id rule list named called small = record {
   texts = members_are_utf8 carries text id rule list named called small;
   numbers = members_have_numbers carries text id rule list small;
   flat = omega (arith, members_are_flat carries text id rule list);
-  same = members_same carries text id rule list small
+  same = members_same carries text id rule list small;
 }
 
 code_is_utf8 : (code : Code) → IsUtf8 (code_text code)
@@ -235,17 +234,20 @@ nothing_carried [] is = refl
 nothing_carried (bytes ∷ list) is = absurd (false≢true is)
 
 certificates_there : (carries : Bool) (text id : List ℕ) (rule : Option ℕ) (list : List (List ℕ)) → IsTrue (carries || is_empty list) → AreAllBytes list
-    → AreCertificatesOf carries list (get (codes "certificates") (object (members_for carries text id rule list)))
+    → AreCertificatesOf carries list (object (members_for carries text id rule list))
 certificates_there true text id rule list is are = (refl, are)
 certificates_there false text id rule list is are = nothing_carried list is
 
 pub reply_is_written : (r : Reply) → CanBeReplied r → AreAllBytes r.certificates → IsReply r (reply_text r)
 reply_is_written r can are =
     let carries = carries_certificates r.code in
-    let text = code_text r.code in
-    (object (reply_members r), object_again (reply_members r) (members_written carries text r.id r.rule r.certificates (code_is_utf8 r.code) can.text (small_rule r.rule can.rule_is)), record {
-      code_is = code_there carries text r.id r.rule r.certificates;
-      id_is = id_there carries text r.id r.rule r.certificates can.size;
-      rule_is = rule_there carries text r.id r.rule r.certificates can.rule_is;
-      certificates_are = certificates_there carries text r.id r.rule r.certificates can.certificates_are are
-    })
+    let text = code_text r.code in (
+      object (reply_members r),
+      object_again (reply_members r) (members_written carries text r.id r.rule r.certificates (code_is_utf8 r.code) can.text (small_rule r.rule can.rule_is)),
+      record {
+        code_is = code_there carries text r.id r.rule r.certificates;
+        id_is = id_there carries text r.id r.rule r.certificates can.size;
+        rule_is = rule_there carries text r.id r.rule r.certificates can.rule_is;
+        certificates_are = certificates_there carries text r.id r.rule r.certificates can.certificates_are are;
+      },
+    )

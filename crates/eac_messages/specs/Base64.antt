@@ -1,10 +1,11 @@
 -- Bytes as texts: standard base64 with padding (RFC 4648, section 4).
-use Rattle.std.specs.Prelude.{ℕ, List, [], ◌∷◌, Ok, Err, Some, None, codes}
+use Rattle.std.specs.Prelude.{◌≡◌, ℕ, List, [], ◌∷◌, Ok, Some, codes}
 use Rattle.std.specs.Result.{result_ok}
 use Rattle.eac_base.specs.Bytes.{AreBytes}
 use Rattle.eac_base.specs.Answers.{◌>>=◌, some_or}
 use Rattle.std.specs.List.{AllByRecursion}
-use Rattle.serde_json.specs.Data.{Data, string, Items, no_items, item}
+use Rattle.serde_json.specs.Data.{Data, string, array, Items, no_items, item}
+use Rattle.serde_json.specs.Find.{get}
 use Rattle.base64.specs.Engines.{standard}
 use Rattle.base64.specs.GeneralPurpose.{encode_of, decode_of}
 use Rattle.eac_messages.specs.declared.refusal.Member.{Member}
@@ -23,6 +24,10 @@ base64_texts (bytes ∷ lists) = item (base64_text bytes) (base64_texts lists)
 
 abbrev pub AreAllBytes : List (List ℕ) → Type 0
 AreAllBytes lists = AllByRecursion AreBytes lists
+
+-- The member of an object that has certificates.
+abbrev pub HasCertificates : List (List ℕ) → Data → Type 0
+HasCertificates lists d = (get (codes "certificates") d ≡ Some (array (base64_texts lists))) × AreAllBytes lists
 
 -- ---- reading: the bytes of a text, and those of all texts or the refusal of the first that isn't base64
 

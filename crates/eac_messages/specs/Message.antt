@@ -12,7 +12,7 @@ use Rattle.eac_messages.specs.declared.message.Call.TheVariants as calls
 use Rattle.eac_messages.specs.declared.message.Message.{Message}
 use Rattle.eac_messages.specs.declared.message.Message.TheVariants as messages
 use Rattle.eac_messages.specs.Body.{Step, object_in, required, id_in, IsIdOf, with_id, longest_id}
-use Rattle.eac_messages.specs.Base64.{base64_text, base64_texts, AreAllBytes, bytes_of, certificates_in}
+use Rattle.eac_messages.specs.Base64.{base64_text, base64_texts, HasCertificates, bytes_of, certificates_in}
 
 -- ---- the text
 
@@ -39,6 +39,11 @@ message_id (messages.RequestCertificate id request) = id
 message_id (messages.SendCertificates id certificates) = id
 message_id (messages.GetCaCertificates id) = id
 
+abbrev pub message_call : Message → Call
+message_call (messages.RequestCertificate id request) = calls.RequestCertificate
+message_call (messages.SendCertificates id certificates) = calls.SendCertificates
+message_call (messages.GetCaCertificates id) = calls.GetCaCertificates
+
 -- What can be written.
 pub record CanBeCalled (m : Message) : Type 0 where
   pub text : IsUtf8 (message_id m)
@@ -46,17 +51,16 @@ pub record CanBeCalled (m : Message) : Type 0 where
 
 -- ---- which bodies a message has: those whose object has its members. Others in the object are passed over.
 
--- The object calls by this name, under this identifier.
-pub record IsCallOf (call : Call) (id : List ℕ) (d : Data) : Type 0 where
-  pub call_is : get (codes "call") d ≡ Some (string (call_name call))
-  pub id_is : IsIdOf id (get (codes "messageID") d)
+-- The call's own member.
+abbrev pub HasContentOf : Message → Data → Type 0
+HasContentOf (messages.RequestCertificate id request) d = (get (codes "request") d ≡ Some (base64_text request)) × AreBytes request
+HasContentOf (messages.SendCertificates id certificates) d = HasCertificates certificates d
+HasContentOf (messages.GetCaCertificates id) d = Unit {0}
 
-abbrev pub HasMembersOf : Message → Data → Type 0
-HasMembersOf (messages.RequestCertificate id request) d =
-    IsCallOf calls.RequestCertificate id d × (get (codes "request") d ≡ Some (base64_text request)) × AreBytes request
-HasMembersOf (messages.SendCertificates id certificates) d =
-    IsCallOf calls.SendCertificates id d × (get (codes "certificates") d ≡ Some (array (base64_texts certificates))) × AreAllBytes certificates
-HasMembersOf (messages.GetCaCertificates id) d = IsCallOf calls.GetCaCertificates id d
+pub record HasMembersOf (m : Message) (d : Data) : Type 0 where
+  pub call_is : get (codes "call") d ≡ Some (string (call_name (message_call m)))
+  pub id_is : IsIdOf (message_id m) (get (codes "messageID") d)
+  pub content_is : HasContentOf m d
 
 abbrev pub IsMessage : Message → List ℕ → Type 0
 IsMessage m body = (d : Data) × (object_in body ≡ Ok d) × HasMembersOf m d

@@ -9,7 +9,7 @@ use Rattle.eac_messages.specs.declared.refusal.Member.TheVariants as names
 use Rattle.eac_messages.specs.declared.code.Code.{Code}
 use Rattle.eac_messages.specs.declared.reply.Reply.{Reply}
 use Rattle.eac_messages.specs.Body.{Step, object_in, required, optional, id_in, IsIdOf, with_id, longest_id}
-use Rattle.eac_messages.specs.Base64.{base64_texts, AreAllBytes, certificates_in}
+use Rattle.eac_messages.specs.Base64.{base64_texts, HasCertificates, certificates_in}
 use Rattle.eac_messages.specs.Code.{code_text, code_named, carries_certificates}
 
 -- A rule of issuing.
@@ -47,15 +47,15 @@ IsRuleOf rule None = rule ≡ None
 IsRuleOf rule (Some d) = (n : ℕ) × (d ≡ number (unsigned n)) × IsTrue (is_rule n) × (rule ≡ Some n)
 
 -- Under another code whatever stands in the member `certificates` is passed over.
-abbrev pub AreCertificatesOf : Bool → List (List ℕ) → Option Data → Type 0
-AreCertificatesOf true list there = (there ≡ Some (array (base64_texts list))) × AreAllBytes list
-AreCertificatesOf false list there = list ≡ []
+abbrev pub AreCertificatesOf : Bool → List (List ℕ) → Data → Type 0
+AreCertificatesOf true list d = HasCertificates list d
+AreCertificatesOf false list d = list ≡ []
 
 pub record HasMembersOf (r : Reply) (d : Data) : Type 0 where
   pub code_is : get (codes "code") d ≡ Some (string (code_text r.code))
   pub id_is : IsIdOf r.id (get (codes "messageID") d)
   pub rule_is : IsRuleOf r.rule (get (codes "rule") d)
-  pub certificates_are : AreCertificatesOf (carries_certificates r.code) r.certificates (get (codes "certificates") d)
+  pub certificates_are : AreCertificatesOf (carries_certificates r.code) r.certificates d
 
 abbrev pub IsReply : Reply → List ℕ → Type 0
 IsReply r body = (d : Data) × (object_in body ≡ Ok d) × HasMembersOf r d

@@ -7,22 +7,26 @@ ghost use Rattle.serde_json.specs.View.{view, items_view};
 ghost use Rattle.eac_messages.specs.declared.refusal.Member.TheVariants as names;
 ghost use Rattle.eac_messages.specs.Body.{refused_message, texts_of, required};
 ghost use Rattle.eac_messages.specs.Base64 as words;
-ghost use Rattle.eac_messages.specs.Base64.{base64_text, base64_texts};
-ghost use Rattle.eac_messages.specs.Steps.{items_bytes};
+ghost use Rattle.eac_messages.specs.Base64.{base64_text, base64_texts, HasCertificates};
+ghost use Rattle.eac_messages.specs.Steps.{items_bytes, IsSpelled, AreSpelled};
 
 use crate::{Member, MessageRefusal};
 use base64::DecodeAllocError;
 use base64::engine::general_purpose::STANDARD;
-use eac_base::{ByteLists, NoMemory, Octets};
+use eac_base::{ByteLists, NoMemory, Octets, are_bytes};
 use serde_json::Value;
 use std::alloc::Global;
 
 /// The bytes that the text is the base64 of.
 pub fn bytes_of(alloc: Global, text: &str, which: Member) -> Result<Octets, MessageRefusal>
-    ensures { Answers (λ o. o) refused_message result (words.bytes_of which text.now) }
+    ensures exact { Answers (λ o. o) refused_message result (words.bytes_of which text.now) }
+    ensures spelled { IfOk result (λ o. IsSpelled text.now o) }
 {
     match STANDARD.decode(alloc, text.as_bytes()) {
-        Ok(bytes) => Ok(Octets::from_slice(alloc, bytes.as_slice())?),
+        Ok(bytes) => {
+            are_bytes(bytes.as_slice());
+            Ok(Octets::from_slice(alloc, bytes.as_slice())?)
+        }
         Err(DecodeAllocError::OutOfMemory) => Err(MessageRefusal::NoMemory),
         Err(DecodeAllocError::DecodeError(_)) => Err(MessageRefusal::Base64(which)),
     }
@@ -41,7 +45,8 @@ fn are_texts(items: &[Value]) -> bool
 
 /// The bytes of all of the texts.
 fn all_bytes_of(alloc: Global, items: &[Value]) -> Result<ByteLists, MessageRefusal>
-    ensures { Answers (λ l. l) refused_message result (items_bytes (items_view items.now)) }
+    ensures exact { Answers (λ l. l) refused_message result (items_bytes (items_view items.now)) }
+    ensures spelled { IfOk result (λ l. AreSpelled (items_view items.now) l) }
 {
     let mut lists = ByteLists::new(alloc);
     'items: for item in items {
@@ -66,7 +71,8 @@ fn items_at(object: &Value) -> Result<&[Value], MessageRefusal>
 
 /// The certificates that the object has to have.
 pub fn certificates_in(alloc: Global, object: &Value) -> Result<ByteLists, MessageRefusal>
-    ensures { Answers (λ l. l) refused_message result (words.certificates_in (view object.now)) }
+    ensures exact { Answers (λ l. l) refused_message result (words.certificates_in (view object.now)) }
+    ensures found { IfOk result (λ l. HasCertificates l (view object.now)) }
 {
     let items = items_at(object)?;
     if !are_texts(items) {

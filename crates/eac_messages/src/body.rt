@@ -34,11 +34,7 @@ pub fn object_in(alloc: Global, body: &[u8]) -> Result<Value, MessageRefusal>
 }
 
 /// The text that the object has to have at this name.
-pub fn text_at<'a>(
-    object: &'a Value,
-    name: &str,
-    which: Member,
-) -> Result<&'a str, MessageRefusal>
+pub fn text_at<'a>(object: &'a Value, name: &str, which: Member) -> Result<&'a str, MessageRefusal>
     ensures { Answers (λ s. s.now) (λ e. Some e) result (required name.now as_str which (view object.now)) }
 {
     match object.get(name).and_then(Value::as_str) {

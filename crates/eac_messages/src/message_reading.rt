@@ -1,10 +1,11 @@
 // Reading a call: each test is one step.
 ghost use Rattle.std.specs.Prelude.{◌≡◌, Ok, IfOk};
 ghost use Rattle.eac_base.specs.Answers.{Answers};
+ghost use Rattle.serde_json.specs.Data.{Data};
 ghost use Rattle.serde_json.specs.View.{view};
-ghost use Rattle.eac_messages.specs.Body.{refused_message};
+ghost use Rattle.eac_messages.specs.Body.{refused_message, object_in};
 ghost use Rattle.eac_messages.specs.Message as words;
-ghost use Rattle.eac_messages.specs.Message.{IsMessage};
+ghost use Rattle.eac_messages.specs.Message.{HasContentOf, IsMessage};
 ghost use Rattle.eac_messages.specs.declared.message.Message.{Message};
 
 use crate::base64_texts::{bytes_of, certificates_in};
@@ -37,7 +38,8 @@ fn call_in(object: &Value) -> Result<Call, MessageRefusal>
 }
 
 fn request_in(alloc: Global, id: Octets, object: &Value) -> Result<Message, MessageRefusal>
-    ensures { Answers (λ m. m) refused_message result (words.request_in id (view object.now)) }
+    ensures exact { Answers (λ m. m) refused_message result (words.request_in id (view object.now)) }
+    ensures content { IfOk result (λ m. HasContentOf m (view object.now)) }
 {
     let text = text_at(object, "request", Member::Request)?;
     let request = bytes_of(alloc, text, Member::Request)?;
@@ -45,14 +47,16 @@ fn request_in(alloc: Global, id: Octets, object: &Value) -> Result<Message, Mess
 }
 
 fn sent_in(alloc: Global, id: Octets, object: &Value) -> Result<Message, MessageRefusal>
-    ensures { Answers (λ m. m) refused_message result (words.sent_in id (view object.now)) }
+    ensures exact { Answers (λ m. m) refused_message result (words.sent_in id (view object.now)) }
+    ensures content { IfOk result (λ m. HasContentOf m (view object.now)) }
 {
     let certificates = certificates_in(alloc, object)?;
     Ok(Message::SendCertificates { id, certificates })
 }
 
 fn message_in(alloc: Global, object: &Value) -> Result<Message, MessageRefusal>
-    ensures { Answers (λ m. m) refused_message result (words.message_in (view object.now)) }
+    ensures exact { Answers (λ m. m) refused_message result (words.message_in (view object.now)) }
+    ensures content { IfOk result (λ m. HasContentOf m (view object.now)) }
 {
     let call = call_in(object)?;
     let id = id_in(alloc, object)?;
@@ -64,7 +68,8 @@ fn message_in(alloc: Global, object: &Value) -> Result<Message, MessageRefusal>
 }
 
 fn message_of(alloc: Global, body: &[u8]) -> Result<Message, MessageRefusal>
-    ensures { Answers (λ m. m) refused_message result (words.read_message body.now) }
+    ensures exact { Answers (λ m. m) refused_message result (words.read_message body.now) }
+    ensures content { IfOk result (λ m. (d : Data) × (object_in body.now ≡ Ok d) × HasContentOf m d) }
 {
     let object = object_in(alloc, body)?;
     message_in(alloc, &object)
@@ -77,6 +82,8 @@ fn message_of(alloc: Global, body: &[u8]) -> Result<Message, MessageRefusal>
 /// member is there, a text or an array of texts (`Member`); each of these texts is base64 (`Base64`).
 pub fn read_message(alloc: Global, body: &[u8]) -> Result<Message, MessageRefusal>
     ensures exact { Answers (λ m. m) refused_message result (words.read_message body.now) }
+    ensures found { IfOk result (λ m. IsMessage m body.now) }
+    ensures only { (m : Message) → IsMessage m body.now → Answers (λ n. n) refused_message result (Ok m) }
 {
     message_of(alloc, body)
 }

@@ -12,11 +12,7 @@ use eac_base::{ByteLists, NoMemory, Octets};
 use serde_json::{Map, Value};
 use std::alloc::Global;
 
-fn request_members(
-    alloc: Global,
-    id: &[u8],
-    request: &[u8],
-) -> Result<Map<String, Value>, NoMemory>
+fn request_members(alloc: Global, id: &[u8], request: &[u8]) -> Result<Map<String, Value>, NoMemory>
     requires { IsUtf8 id.now }
     ensures { IfOk result (λ m. members_view m.entries ≡ message_members (messages.RequestCertificate id.now request.now)) }
 {

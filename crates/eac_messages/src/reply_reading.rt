@@ -1,10 +1,12 @@
 // Reading a reply: each test is one step.
 ghost use Rattle.std.specs.Prelude.{◌≡◌, Ok, Some, IfOk};
 ghost use Rattle.eac_base.specs.Answers.{Answers};
+ghost use Rattle.serde_json.specs.Data.{Data};
 ghost use Rattle.serde_json.specs.View.{view};
-ghost use Rattle.eac_messages.specs.Body.{refused_message};
+ghost use Rattle.eac_messages.specs.Body.{refused_message, object_in};
 ghost use Rattle.eac_messages.specs.Reply as words;
-ghost use Rattle.eac_messages.specs.Reply.{IsReply};
+ghost use Rattle.eac_messages.specs.Reply.{AreCertificatesOf, IsReply};
+ghost use Rattle.eac_messages.specs.Code.{carries_certificates};
 ghost use Rattle.eac_messages.specs.declared.reply.Reply.{Reply};
 
 use crate::base64_texts::certificates_in;
@@ -48,7 +50,8 @@ fn certificates_under(
     code: Code,
     object: &Value,
 ) -> Result<ByteLists, MessageRefusal>
-    ensures { Answers (λ l. l) refused_message result (words.certificates_under code (view object.now)) }
+    ensures exact { Answers (λ l. l) refused_message result (words.certificates_under code (view object.now)) }
+    ensures found { IfOk result (λ l. AreCertificatesOf (carries_certificates code) l (view object.now)) }
 {
     match code {
         Code::CertAvailable => certificates_in(alloc, object),
@@ -57,7 +60,8 @@ fn certificates_under(
 }
 
 fn reply_in(alloc: Global, object: &Value) -> Result<Reply, MessageRefusal>
-    ensures { Answers (λ r. r) refused_message result (words.reply_in (view object.now)) }
+    ensures exact { Answers (λ r. r) refused_message result (words.reply_in (view object.now)) }
+    ensures content { IfOk result (λ r. AreCertificatesOf (carries_certificates r.code) r.certificates (view object.now)) }
 {
     let code = code_in(object)?;
     let id = id_in(alloc, object)?;
@@ -72,7 +76,9 @@ fn reply_in(alloc: Global, object: &Value) -> Result<Reply, MessageRefusal>
 }
 
 fn reply_of(alloc: Global, body: &[u8]) -> Result<Reply, MessageRefusal>
-    ensures { Answers (λ r. r) refused_message result (words.read_reply body.now) }
+    ensures exact { Answers (λ r. r) refused_message result (words.read_reply body.now) }
+    ensures content { IfOk result (λ r. (d : Data) × (object_in body.now ≡ Ok d)
+        × AreCertificatesOf (carries_certificates r.code) r.certificates d) }
 {
     let object = object_in(alloc, body)?;
     reply_in(alloc, &object)
@@ -86,6 +92,8 @@ fn reply_of(alloc: Global, body: &[u8]) -> Result<Reply, MessageRefusal>
 /// of these texts is base64 (`Base64`).
 pub fn read_reply(alloc: Global, body: &[u8]) -> Result<Reply, MessageRefusal>
     ensures exact { Answers (λ r. r) refused_message result (words.read_reply body.now) }
+    ensures found { IfOk result (λ r. IsReply r body.now) }
+    ensures only { (r : Reply) → IsReply r body.now → Answers (λ s. s) refused_message result (Ok r) }
 {
     reply_of(alloc, body)
 }
