@@ -1,6 +1,7 @@
 -- A value that was read has its members in the body's object.
-use Rattle.std.proofs.Common.{◌≡◌, ◌≤◌, ℕ, List, [], ◌∷◌, length, Option, Some, None, Bool, true, false, cond, Result, Ok, Err, IfOk, IsTrue, refl, ap, sym, ◌∙◌, subst, ◌⊎◌, inl, inr}
-use Rattle.std.specs.Prelude.{codes, if◌then◌else◌, nat_le}
+use Rattle.std.proofs.Common.{◌≡◌, ◌≤◌, ◌||◌, lit≤, ℕ, List, [], ◌∷◌, length, Option, Some, None, Bool, true, false, cond, Result, Ok, Err, IfOk, IsTrue, refl, ap, sym, ◌∙◌, subst, ◌⊎◌, inl, inr}
+use Rattle.std.specs.Prelude.{codes, if◌then◌else◌, nat_le, IfSome, IsUtf8}
+use Rattle.eac_base.specs.Bytes.{is_empty}
 use Rattle.std.specs.Str.{bytes_eq}
 use Rattle.std.proofs.lemmas.Slice.Eq.{bytes_eq-Decides}
 use Rattle.std.proofs.lemmas.Bool.{leb-true}
@@ -17,10 +18,10 @@ use Rattle.eac_messages.specs.declared.code.Code.{Code}
 use Rattle.eac_messages.specs.declared.reply.Reply.{Reply}
 use Rattle.eac_messages.specs.Body.{Step, refused_message, object_in, required, of_kind_or, id_of, id_in, IsIdOf}
 use Rattle.eac_messages.specs.Base64.{bytes_of, certificates_in}
-use Rattle.eac_messages.specs.Message.{call_name, call_named, call_of, call_in, called_in, message_in, read_message, message_call, message_id, HasContentOf, HasMembersOf, IsMessage}
+use Rattle.eac_messages.specs.Message.{call_name, call_named, call_of, call_in, called_in, message_in, read_message, message_call, message_id, HasContentOf, HasMembersOf, IsMessage, CanBeCalled}
 use Rattle.eac_messages.specs.Code.{code_text, code_among, code_named, all_codes, carries_certificates}
 use Rattle.eac_messages.specs.Reply as replies
-use Rattle.eac_messages.specs.Reply.{is_rule, code_of, code_in, rule_of, rule_in, certificates_under, reply_in, read_reply, IsRuleOf, AreCertificatesOf, IsReply}
+use Rattle.eac_messages.specs.Reply.{is_rule, code_of, code_in, rule_of, rule_in, certificates_under, reply_in, read_reply, IsRuleOf, AreCertificatesOf, IsReply, CanBeReplied}
 
 -- ---- steps that passed
 
@@ -127,6 +128,16 @@ pub message_found : (body : List ℕ) (r : Result Message MessageRefusal) → An
 message_found body (Err e) exact content = tt
 message_found body (Ok m) exact content = (content.0, content.1, members_found content.0 m (within_object body content.0 message_in m content.1 exact) content.2)
 
+-- ---- what was read can be written
+
+id_fits : (id : List ℕ) (o : Option Data) → IsIdOf id o → length id ≤ 64
+id_fits id None is = subst (λ s. length s ≤ 64) (sym is) (lit≤ tt)
+id_fits id (Some d) is = is.1
+
+pub message_legal : (body : List ℕ) (r : Result Message MessageRefusal) → IfOk r (λ m. IsMessage m body) → IfOk r (λ m. IsUtf8 (message_id m)) → IfOk r CanBeCalled
+message_legal body (Err e) found text = tt
+message_legal body (Ok m) found text = record { text = text; size = id_fits (message_id m) (get (codes "messageID") found.0) found.2.id_is }
+
 -- ---- replies
 
 code_among_is : (list : List Code) (s : List ℕ) (code : Code) → code_among list s ≡ Some code → s ≡ code_text code
@@ -179,3 +190,22 @@ pub reply_found : (body : List ℕ) (r : Result Reply MessageRefusal) → Answer
     → IfOk r (λ s. (d : Data) × (object_in body ≡ Ok d) × AreCertificatesOf (carries_certificates s.code) s.certificates d) → IfOk r (λ s. IsReply s body)
 reply_found body (Err e) exact content = tt
 reply_found body (Ok r) exact content = (content.0, content.1, reply_members_found content.0 r (within_object body content.0 reply_in r content.1 exact) content.2)
+
+-- ---- what was read can be written
+
+rule_fits : (rule : Option ℕ) (o : Option Data) → IsRuleOf rule o → IfSome rule (λ n. IsTrue (is_rule n))
+rule_fits rule None is = subst (λ s. IfSome s (λ n. IsTrue (is_rule n))) (sym is) tt
+rule_fits rule (Some d) is = subst (λ s. IfSome s (λ n. IsTrue (is_rule n))) (sym is.3) is.2
+
+certificates_fit : (carries : Bool) (list : List (List ℕ)) (d : Data) → AreCertificatesOf carries list d → IsTrue (carries || is_empty list)
+certificates_fit true list d are = refl
+certificates_fit false list d are = subst (λ s. IsTrue (is_empty s)) (sym are) refl
+
+pub reply_legal : (body : List ℕ) (r : Result Reply MessageRefusal) → IfOk r (λ s. IsReply s body) → IfOk r (λ s. IsUtf8 s.id) → IfOk r CanBeReplied
+reply_legal body (Err e) found text = tt
+reply_legal body (Ok r) found text = record {
+  text = text;
+  size = id_fits r.id (get (codes "messageID") found.0) found.2.id_is;
+  rule_is = rule_fits r.rule (get (codes "rule") found.0) found.2.rule_is;
+  certificates_are = certificates_fit (carries_certificates r.code) r.certificates found.0 found.2.certificates_are;
+}

@@ -1,8 +1,8 @@
 // The object that a body is, and the members of either kind of body.
-ghost use Rattle.std.specs.Prelude.{◌≡◌, codes, option_map, IfSome};
+ghost use Rattle.std.specs.Prelude.{Some, IfOk, IsUtf8};
 ghost use Rattle.eac_base.specs.Answers.{Answers};
 ghost use Rattle.serde_json.specs.View.{view};
-ghost use Rattle.serde_json.specs.Find.{get, as_str};
+ghost use Rattle.serde_json.specs.Find.{as_str};
 ghost use Rattle.eac_messages.specs.Body as words;
 ghost use Rattle.eac_messages.specs.Body.{refused_message, required};
 
@@ -45,7 +45,8 @@ pub fn text_at<'a>(object: &'a Value, name: &str, which: Member) -> Result<&'a s
 
 /// The identifier that the object has, or none.
 pub fn id_in(alloc: Global, object: &Value) -> Result<Octets, MessageRefusal>
-    ensures { Answers (λ o. o) refused_message result (words.id_in (view object.now)) }
+    ensures exact { Answers (λ o. o) refused_message result (words.id_in (view object.now)) }
+    ensures text { IfOk result (λ o. IsUtf8 o) }
 {
     let Some(found) = object.get("messageID") else {
         return Ok(Octets::new(alloc));

@@ -1,11 +1,11 @@
 // Reading a call: each test is one step.
-ghost use Rattle.std.specs.Prelude.{◌≡◌, Ok, IfOk};
+ghost use Rattle.std.specs.Prelude.{◌≡◌, Ok, Some, IfOk, IsUtf8};
 ghost use Rattle.eac_base.specs.Answers.{Answers};
 ghost use Rattle.serde_json.specs.Data.{Data};
 ghost use Rattle.serde_json.specs.View.{view};
 ghost use Rattle.eac_messages.specs.Body.{refused_message, object_in};
 ghost use Rattle.eac_messages.specs.Message as words;
-ghost use Rattle.eac_messages.specs.Message.{HasContentOf, IsMessage};
+ghost use Rattle.eac_messages.specs.Message.{CanBeCalled, HasContentOf, IsMessage, message_id};
 ghost use Rattle.eac_messages.specs.declared.message.Message.{Message};
 
 use crate::base64_texts::{bytes_of, certificates_in};
@@ -40,6 +40,7 @@ fn call_in(object: &Value) -> Result<Call, MessageRefusal>
 fn request_in(alloc: Global, id: Octets, object: &Value) -> Result<Message, MessageRefusal>
     ensures exact { Answers (λ m. m) refused_message result (words.request_in id (view object.now)) }
     ensures content { IfOk result (λ m. HasContentOf m (view object.now)) }
+    ensures text { IsUtf8 id → IfOk result (λ m. IsUtf8 (message_id m)) }
 {
     let text = text_at(object, "request", Member::Request)?;
     let request = bytes_of(alloc, text, Member::Request)?;
@@ -49,6 +50,7 @@ fn request_in(alloc: Global, id: Octets, object: &Value) -> Result<Message, Mess
 fn sent_in(alloc: Global, id: Octets, object: &Value) -> Result<Message, MessageRefusal>
     ensures exact { Answers (λ m. m) refused_message result (words.sent_in id (view object.now)) }
     ensures content { IfOk result (λ m. HasContentOf m (view object.now)) }
+    ensures text { IsUtf8 id → IfOk result (λ m. IsUtf8 (message_id m)) }
 {
     let certificates = certificates_in(alloc, object)?;
     Ok(Message::SendCertificates { id, certificates })
@@ -57,6 +59,7 @@ fn sent_in(alloc: Global, id: Octets, object: &Value) -> Result<Message, Message
 fn message_in(alloc: Global, object: &Value) -> Result<Message, MessageRefusal>
     ensures exact { Answers (λ m. m) refused_message result (words.message_in (view object.now)) }
     ensures content { IfOk result (λ m. HasContentOf m (view object.now)) }
+    ensures text { IfOk result (λ m. IsUtf8 (message_id m)) }
 {
     let call = call_in(object)?;
     let id = id_in(alloc, object)?;
@@ -70,6 +73,7 @@ fn message_in(alloc: Global, object: &Value) -> Result<Message, MessageRefusal>
 fn message_of(alloc: Global, body: &[u8]) -> Result<Message, MessageRefusal>
     ensures exact { Answers (λ m. m) refused_message result (words.read_message body.now) }
     ensures content { IfOk result (λ m. (d : Data) × (object_in body.now ≡ Ok d) × HasContentOf m d) }
+    ensures text { IfOk result (λ m. IsUtf8 (message_id m)) }
 {
     let object = object_in(alloc, body)?;
     message_in(alloc, &object)
@@ -84,6 +88,7 @@ pub fn read_message(alloc: Global, body: &[u8]) -> Result<Message, MessageRefusa
     ensures exact { Answers (λ m. m) refused_message result (words.read_message body.now) }
     ensures found { IfOk result (λ m. IsMessage m body.now) }
     ensures only { (m : Message) → IsMessage m body.now → Answers (λ n. n) refused_message result (Ok m) }
+    ensures legal { IfOk result CanBeCalled }
 {
     message_of(alloc, body)
 }

@@ -1,11 +1,11 @@
 // Reading a reply: each test is one step.
-ghost use Rattle.std.specs.Prelude.{◌≡◌, Ok, Some, IfOk};
+ghost use Rattle.std.specs.Prelude.{◌≡◌, Ok, Some, IfOk, IsUtf8};
 ghost use Rattle.eac_base.specs.Answers.{Answers};
 ghost use Rattle.serde_json.specs.Data.{Data};
 ghost use Rattle.serde_json.specs.View.{view};
 ghost use Rattle.eac_messages.specs.Body.{refused_message, object_in};
 ghost use Rattle.eac_messages.specs.Reply as words;
-ghost use Rattle.eac_messages.specs.Reply.{AreCertificatesOf, IsReply};
+ghost use Rattle.eac_messages.specs.Reply.{CanBeReplied, AreCertificatesOf, IsReply};
 ghost use Rattle.eac_messages.specs.Code.{carries_certificates};
 ghost use Rattle.eac_messages.specs.declared.reply.Reply.{Reply};
 
@@ -62,6 +62,7 @@ fn certificates_under(
 fn reply_in(alloc: Global, object: &Value) -> Result<Reply, MessageRefusal>
     ensures exact { Answers (λ r. r) refused_message result (words.reply_in (view object.now)) }
     ensures content { IfOk result (λ r. AreCertificatesOf (carries_certificates r.code) r.certificates (view object.now)) }
+    ensures text { IfOk result (λ r. IsUtf8 r.id) }
 {
     let code = code_in(object)?;
     let id = id_in(alloc, object)?;
@@ -79,6 +80,7 @@ fn reply_of(alloc: Global, body: &[u8]) -> Result<Reply, MessageRefusal>
     ensures exact { Answers (λ r. r) refused_message result (words.read_reply body.now) }
     ensures content { IfOk result (λ r. (d : Data) × (object_in body.now ≡ Ok d)
         × AreCertificatesOf (carries_certificates r.code) r.certificates d) }
+    ensures text { IfOk result (λ r. IsUtf8 r.id) }
 {
     let object = object_in(alloc, body)?;
     reply_in(alloc, &object)
@@ -94,6 +96,7 @@ pub fn read_reply(alloc: Global, body: &[u8]) -> Result<Reply, MessageRefusal>
     ensures exact { Answers (λ r. r) refused_message result (words.read_reply body.now) }
     ensures found { IfOk result (λ r. IsReply r body.now) }
     ensures only { (r : Reply) → IsReply r body.now → Answers (λ s. s) refused_message result (Ok r) }
+    ensures legal { IfOk result CanBeReplied }
 {
     reply_of(alloc, body)
 }

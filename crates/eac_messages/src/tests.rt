@@ -339,12 +339,12 @@ fn calls_are_written_and_read(rt: HostRuntime) -> Result<(), Fail> {
 fn what_json_escapes_is_escaped_in_an_identifier(rt: HostRuntime) -> Result<(), Fail> {
     let alloc = rt.alloc();
     let message = Message::GetCaCertificates {
-        id: Octets::from_slice(alloc, b"\"\\/\n\x01\xc3\xa9")?,
+        id: Octets::from_slice(alloc, b"\"\\/\n\x01")?,
     };
     let text = write_message(alloc, &message)?;
     assert_eq!(rt;
         text.as_slice(),
-        b"{\"call\":\"GetCACertificates\",\"messageID\":\"\\\"\\\\/\\n\\u0001\xc3\xa9\"}".as_slice()
+        b"{\"call\":\"GetCACertificates\",\"messageID\":\"\\\"\\\\/\\n\\u0001\"}".as_slice()
     );
     Ok(())
 }
