@@ -93,12 +93,7 @@ pub(crate) fn append_and_fail(
 }
 
 // Whether the own row of a key waits for its certificate.
-fn waits(
-    alloc: Global,
-    rows: &[Row],
-    desk: u32,
-    reference: &Reference,
-) -> Result<(), KeepRefusal>
+fn waits(alloc: Global, rows: &[Row], desk: u32, reference: &Reference) -> Result<(), KeepRefusal>
     requires { All IsStorable rows.now }
     ensures told { Waits rows.now desk reference.now result }
     ensures asked { SettleAsked desk reference.now result }

@@ -65,7 +65,7 @@ pub(crate) fn copy_at(
 
 // Whether the row is of this table and desk, and of this holder where one is named.
 fn is_wanted(row: &Row, table: Table, desk: u32, holder: Option<&Holder>) -> bool
-    ensures { result ≡ is_wanted table desk (option_copied holder) row.now }
+    ensures { result ≡ is_wanted table desk (option_copied holder.entry) row.now }
 {
     match holder {
         Some(holder) => row.is_of(table, desk) && row.is_of_holder(holder),
@@ -81,7 +81,7 @@ fn copies(
     desk: u32,
     holder: Option<&Holder>,
 ) -> Result<Rows, KeepRefusal>
-    ensures given { Gives (filter (is_wanted table desk (option_copied holder)) rows.now) result }
+    ensures given { Gives (filter (is_wanted table desk (option_copied holder.entry)) rows.now) result }
     ensures own { IfErr result (λ refusal. refusal ≡ RefusedNoMemory) }
 {
     let mut found = Rows::new(alloc);

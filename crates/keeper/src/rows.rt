@@ -69,10 +69,7 @@ pub struct CaPart {
 #[derive(Debug, Drop)]
 pub enum Part {
     /// The bytes that were registered, and the day in six ASCII digits.
-    Register {
-        request: Octets,
-        day: [u8; 6],
-    },
+    Register { request: Octets, day: [u8; 6] },
     Issued(IssuedPart),
     Own(OwnPart),
     Ca(CaPart),
