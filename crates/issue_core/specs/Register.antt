@@ -6,7 +6,7 @@ use Rattle.std.specs.List.{list_any}
 use Rattle.eac_base.specs.Causes.{Rose}
 use Rattle.keeper.specs.declared.rows.Row.{Row}
 use Rattle.keeper.specs.declared.rows.Part.{Part}
-use Rattle.keeper.specs.declared.rows.Part.TheVariants.{Register}
+use Rattle.keeper.specs.declared.rows.Part.TheVariants as part
 use Rattle.std.specs.Str.{bytes_eq}
 use Rattle.keeper.specs.Rows.{is_of, most_rows}
 use Rattle.keeper.specs.declared.rows.Table.TheVariants.{Register as RegisterTable}
@@ -83,10 +83,16 @@ number_of Full = 12
 -- ---- its rows
 
 abbrev pub bytes_of : Part → List ℕ
-bytes_of (Register request day) = request
+bytes_of (part.Register request day) = request
+bytes_of (part.Issued p) = []
+bytes_of (part.Own p) = []
+bytes_of (part.Ca p) = []
 
 abbrev pub day_of : Part → List ℕ
-day_of (Register request day) = day
+day_of (part.Register request day) = day
+day_of (part.Issued p) = []
+day_of (part.Own p) = []
+day_of (part.Ca p) = []
 
 -- the entry of a row
 abbrev pub entry_of_row : Row → Entry Request (List ℕ)
@@ -99,7 +105,7 @@ entries_of (row ∷ rows) = if is_of RegisterTable 0 row then entry_of_row row �
 
 -- the row of a request that was given a day
 abbrev pub row_of : List ℕ → List ℕ → List ℕ → Row
-row_of reference bytes day = record { desk = 0; reference = reference; part = Register bytes day }
+row_of reference bytes day = record { desk = 0; reference = reference; part = part.Register bytes day }
 
 -- the rows of a ledger
 abbrev pub rows_of_ledger : Entries → List Row
@@ -132,7 +138,10 @@ outcome_of (Err FaultNoMemory) = NoMemory
 
 -- what is answered where the reference has a row
 abbrev pub again_of : Part → List ℕ → RegisterAnswer
-again_of part bytes = if bytes_eq (bytes_of part) bytes then AnswerKept (day_of part) else AnswerRefused Used
+again_of (part.Register request day) bytes = if bytes_eq request bytes then AnswerKept day else AnswerRefused Used
+again_of (part.Issued p) bytes = AnswerRefused Used
+again_of (part.Own p) bytes = AnswerRefused Used
+again_of (part.Ca p) bytes = AnswerRefused Used
 
 -- the count of faults has not fallen, and the keeper's fault came only where it rose
 pub record HasCause {T : Type 0} (before now : ℕ) (result : Result T IssueFault) : Type 0 where

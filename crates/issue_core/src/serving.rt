@@ -43,6 +43,7 @@ fn answer_again(part: &Part, request: &[u8]) -> RegisterAnswer
                 RegisterAnswer::Refused(Rule::Used)
             }
         }
+        _ => RegisterAnswer::Refused(Rule::Used),
     }
 }
 

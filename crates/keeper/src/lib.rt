@@ -12,16 +12,22 @@
 //! What a desk's rows mean, and when one may be added, is left to the layers above. Nothing here reads what a row keeps.
 #![tactic(auto)]
 
+mod changing;
+mod copies;
 mod fading;
 mod memory;
 mod plan;
+mod reading;
+mod row_list;
 mod rows;
 #[cfg(test)]
 mod tests;
 mod traits;
 
+pub use copies::copy_key;
 pub use fading::FadingKeeper;
 pub use memory::MemoryKeeper;
 pub use plan::{KeeperPlan, Moment};
-pub use rows::{Part, Row, Table};
+pub use row_list::Rows;
+pub use rows::{CaPart, IssuedPart, OwnPart, Part, Row, Settled, Table};
 pub use traits::{KeepRefusal, Keeper, MOST_ROWS};
