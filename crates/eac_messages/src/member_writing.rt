@@ -1,6 +1,5 @@
 // Members of an object that is to be written, and its text.
-ghost use Rattle.std.specs.Prelude.{◌≡◌, codes, IfOk, OnOk, IsUtf8, false};
-ghost use Rattle.eac_base.specs.Bytes.{is_empty};
+ghost use Rattle.std.specs.Prelude.{◌≡◌, IfOk, OnOk, IsUtf8, false};
 ghost use Rattle.serde_json.specs.Data.{object, string, put};
 ghost use Rattle.serde_json.specs.View.{view, members_view};
 ghost use Rattle.serde_json.specs.Written.{compact_text, members_have_float};
@@ -28,7 +27,8 @@ pub fn put_text(
     name: &str,
     text: &str,
 ) -> Result<(), NoMemory>
-    ensures { OnOk result (members_view members.new.entries ≡ put name.now (string text.now) (members_view members.old.entries)) }
+    ensures { OnOk result (members_view members.new.entries
+        ≡ put name.now (string text.now) (members_view members.old.entries)) }
 {
     let value = Value::String(String::from_str(alloc, text)?);
     put_value(members, alloc, name, value)
