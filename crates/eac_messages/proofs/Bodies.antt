@@ -7,7 +7,7 @@ use Rattle.serde_json.specs.Data.{Data}
 use Rattle.serde_json.specs.Read.{read}
 use Rattle.serde_json.specs.Find.{as_object}
 use Rattle.eac_messages.specs.declared.refusal.MessageRefusal.TheVariants as refusals
-use Rattle.eac_messages.specs.Body.{Step, object_in}
+use Rattle.eac_messages.specs.Body.{object_in}
 
 pub object_read : (body : List ℕ) (d : Data) → IsUtf8 body → read body ≡ Some d → is_some (as_object d) ≡ true → object_in body ≡ Ok d
 object_read body d text value object = rw (is_utf8-from_IsUtf8 body text, value, object) refl

@@ -1,6 +1,6 @@
 -- No message and no reply has a float.
-use Rattle.std.proofs.Common.{◌≡◌, ℕ, List, [], ◌∷◌, Option, Some, None, Bool, true, false, cond, refl}
-use Rattle.serde_json.specs.Data.{Data, array, Items, Members, no_members, member}
+use Rattle.std.proofs.Common.{◌≡◌, ℕ, List, [], ◌∷◌, Option, Some, None, Bool, true, false, refl}
+use Rattle.serde_json.specs.Data.{array, Members, no_members, member}
 use Rattle.serde_json.specs.Written.{items_have_float, members_have_float}
 use Rattle.std.specs.Prelude.{codes, if◌then◌else◌}
 use Rattle.eac_messages.specs.declared.message.Message.{Message}

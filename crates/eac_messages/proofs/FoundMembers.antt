@@ -1,12 +1,12 @@
 -- A value that was read has its members in the body's object.
-use Rattle.std.proofs.Common.{◌≡◌, ◌≤◌, ◌||◌, lit≤, ℕ, List, [], ◌∷◌, length, Option, Some, None, Bool, true, false, cond, Result, Ok, Err, IfOk, IsTrue, refl, ap, sym, ◌∙◌, subst, ◌⊎◌, inl, inr}
+use Rattle.std.proofs.Common.{◌≡◌, ◌≤◌, ◌||◌, lit≤, ℕ, List, [], ◌∷◌, length, Option, Some, None, Bool, true, false, Result, Ok, Err, IfOk, IsTrue, refl, ap, sym, ◌∙◌, subst, ◌⊎◌, inl, inr}
 use Rattle.std.specs.Prelude.{codes, if◌then◌else◌, nat_le, IfSome, IsUtf8}
 use Rattle.eac_base.specs.Bytes.{is_empty}
 use Rattle.std.specs.Str.{bytes_eq}
 use Rattle.std.proofs.lemmas.Slice.Eq.{bytes_eq-Decides}
 use Rattle.std.proofs.lemmas.Bool.{leb-true}
 use Rattle.eac_base.specs.Answers.{◌>>=◌, some_or, ◌gives◌, Answers}
-use Rattle.serde_json.specs.Data.{Data, null, boolean, number, string, array, object, Num, unsigned, negative, float}
+use Rattle.serde_json.specs.Data.{Data, null, boolean, number, string, array, object, unsigned, negative, float}
 use Rattle.serde_json.specs.Find.{get, as_str}
 use Rattle.eac_messages.specs.declared.refusal.Member.TheVariants as names
 use Rattle.eac_messages.specs.declared.refusal.MessageRefusal.{MessageRefusal}
@@ -18,7 +18,7 @@ use Rattle.eac_messages.specs.declared.code.Code.{Code}
 use Rattle.eac_messages.specs.declared.reply.Reply.{Reply}
 use Rattle.eac_messages.specs.Body.{Step, refused_message, object_in, required, of_kind_or, id_of, id_in, IsIdOf}
 use Rattle.eac_messages.specs.Base64.{bytes_of, certificates_in}
-use Rattle.eac_messages.specs.Message.{call_name, call_named, call_of, call_in, called_in, message_in, read_message, message_call, message_id, HasContentOf, HasMembersOf, IsMessage, CanBeCalled}
+use Rattle.eac_messages.specs.Message.{call_name, call_named, call_in, called_in, message_in, read_message, message_call, message_id, HasContentOf, HasMembersOf, IsMessage, CanBeCalled}
 use Rattle.eac_messages.specs.Code.{code_text, code_among, code_named, all_codes, carries_certificates}
 use Rattle.eac_messages.specs.Reply as replies
 use Rattle.eac_messages.specs.Reply.{is_rule, code_of, code_in, rule_of, rule_in, certificates_under, reply_in, read_reply, IsRuleOf, AreCertificatesOf, IsReply, CanBeReplied}

@@ -1,10 +1,10 @@
 -- A body whose object has the members of a message or of a reply is read as that value.
-use Rattle.std.proofs.Common.{◌≡◌, ◌≤◌, ℕ, zero, suc, lit<, List, [], ◌∷◌, length, map, Option, Some, None, Bool, true, false, cond, Ok, Err, IsTrue, refl, ap, sym, ◌∙◌}
-use Rattle.std.specs.Prelude.{codes, if◌then◌else◌, nat_le}
+use Rattle.std.proofs.Common.{◌≡◌, ℕ, zero, suc, lit<, List, [], ◌∷◌, length, map, Option, Some, None, Bool, true, false, Ok, refl, ◌∙◌}
+use Rattle.std.specs.Prelude.{codes, if◌then◌else◌}
 use Rattle.std.proofs.lemmas.Bool.{le-leb}
 use Rattle.eac_base.specs.Bytes.{AreBytes}
-use Rattle.eac_base.specs.Answers.{◌>>=◌, some_or, ◌gives◌}
-use Rattle.serde_json.specs.Data.{Data, string, number, array, unsigned}
+use Rattle.eac_base.specs.Answers.{some_or}
+use Rattle.serde_json.specs.Data.{Data, string, array}
 use Rattle.serde_json.specs.Find.{get}
 use Rattle.base64.specs.Engines.{standard}
 use Rattle.base64.specs.GeneralPurpose.{IsBytes, encode_of, decode_of}
@@ -19,8 +19,8 @@ use Rattle.eac_messages.specs.declared.message.Message.TheVariants as messages
 use Rattle.eac_messages.specs.declared.code.Code.{Code}
 use Rattle.eac_messages.specs.declared.code.Code.TheVariants as kinds
 use Rattle.eac_messages.specs.declared.reply.Reply.{Reply}
-use Rattle.eac_messages.specs.Body.{Step, object_in, required, as_texts, texts_of, of_kind_or, id_of, id_in, IsIdOf}
-use Rattle.eac_messages.specs.Base64.{base64_text, base64_texts, AreAllBytes, bytes_of, all_bytes_of, certificates_in}
+use Rattle.eac_messages.specs.Body.{texts_of, of_kind_or, id_of, id_in, IsIdOf}
+use Rattle.eac_messages.specs.Base64.{base64_texts, AreAllBytes, bytes_of, all_bytes_of, certificates_in}
 use Rattle.eac_messages.specs.Message.{call_name, call_in, called_in, message_in, read_message, message_call, message_id, HasContentOf, HasMembersOf, IsMessage}
 use Rattle.eac_messages.specs.Code.{code_text, code_named, carries_certificates}
 use Rattle.eac_messages.specs.Reply as replies

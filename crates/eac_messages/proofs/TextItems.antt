@@ -1,5 +1,5 @@
 -- Items of an array that are texts, and the bytes of which they are the base64, one after another.
-use Rattle.std.proofs.Common.{◌≡◌, ℕ, List, [], ◌∷◌, ◌++◌, map, Option, Some, None, is_some, Bool, true, false, ◌&&◌, Result, Ok, Err, refl, ap, sym, ◌∙◌, ◌+◌, ◌<◌, ◌≤◌, IfOk, subst, length, drop, take, get_or, append_assoc, drop-cons, add-one}
+use Rattle.std.proofs.Common.{◌≡◌, ℕ, List, [], ◌∷◌, ◌++◌, map, Option, Some, None, is_some, true, false, ◌&&◌, Ok, Err, refl, ap, sym, ◌∙◌, ◌+◌, ◌<◌, ◌≤◌, IfOk, subst, length, drop, take, get_or, append_assoc, drop-cons, add-one}
 use Rattle.std.proofs.lemmas.List.{map_push, take_more, take_all}
 use Rattle.std.specs.List.{slice_get}
 use Rattle.std.proofs.lemmas.Option.{slice_get_within, get_or_from_slice_get}

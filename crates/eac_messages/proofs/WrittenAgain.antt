@@ -1,38 +1,36 @@
 -- The object of a written message or reply has its members.
-use Rattle.std.proofs.Common.{◌≡◌, ◌≤◌, ◌<◌, ◌^◌, ◌||◌, ℕ, List, [], ◌∷◌, length, Option, Some, None, Bool, true, false, cond, Ok, IsTrue, refl, ap, sym, ◌∙◌, subst, arith, lit≤}
-use Rattle.std.specs.Prelude.{⊤, codes, decimal, if◌then◌else◌, IfSome}
+use Rattle.std.proofs.Common.{◌≡◌, ◌≤◌, ◌<◌, ◌^◌, ◌||◌, ℕ, List, [], ◌∷◌, length, Option, Some, None, Bool, true, false, IsTrue, refl, arith, lit≤}
+use Rattle.std.specs.Prelude.{codes, decimal, if◌then◌else◌, IfSome}
 use Rattle.std.specs.Str.{IsUtf8}
 use Rattle.std.proofs.lemmas.Bool.{leb-true, and_parts, false≢true}
 use Rattle.std.specs.Prelude.{nat_le}
 use Rattle.serde_json.specs.Find.{get}
 use Rattle.std.proofs.lemmas.Str.{IsUtf8-from_ascii}
 use Rattle.std.proofs.lemmas.Fmt.{IsAscii-decimal}
-use Rattle.json.specs.Json as json
 use Rattle.json.specs.Tree as tree
 use Rattle.json.proofs.Printed.Utf8.{IsUtf8-are_ascii}
 use Rattle.json.proofs.Printed.Decimals.{IsNumber-decimal}
-use Rattle.serde_json.specs.Data.{Data, number, string, array, object, unsigned, Items, no_items, item, Members, no_members, member}
+use Rattle.serde_json.specs.Data.{string, array, object, Members, member}
 use Rattle.serde_json.specs.Read.{of_items, of_json}
-use Rattle.serde_json.specs.Written.{outline, items_outline, members_outline, compact_text}
+use Rattle.serde_json.specs.Written.{outline, items_outline, members_outline}
 use Rattle.serde_json.proofs.Numbers.{number_of-decimal}
 use Rattle.base64.specs.Engines.{standard}
 use Rattle.base64.specs.GeneralPurpose.{encode_of}
 use Rattle.base64.proofs.EngineFacts.{IsAscii-encode_of}
-use Rattle.eac_base.specs.Bytes.{AreBytes, is_within, is_empty}
+use Rattle.eac_base.specs.Bytes.{AreBytes, is_empty}
 use Rattle.eac_messages.specs.declared.message.Message.{Message}
 use Rattle.eac_messages.specs.declared.message.Message.TheVariants as messages
-use Rattle.eac_messages.specs.declared.message.Call.TheVariants as calls
 use Rattle.eac_messages.specs.declared.reply.Reply.{Reply}
 use Rattle.eac_messages.specs.declared.code.Code.{Code}
 use Rattle.eac_messages.specs.declared.code.Code.TheVariants as kinds
 use Rattle.eac_messages.specs.Body.{with_id, IsIdOf}
-use Rattle.eac_messages.specs.Base64.{base64_text, base64_texts, AreAllBytes}
+use Rattle.eac_messages.specs.Base64.{base64_texts, AreAllBytes}
 use Rattle.eac_messages.specs.Message.{message_members, message_text, CanBeCalled, IsMessage, HasMembersOf, message_id}
 use Rattle.eac_messages.specs.Code.{code_text, carries_certificates}
 use Rattle.eac_messages.specs.Laws.{CarriesBytes}
 use Rattle.eac_messages.specs.Reply as replies
 use Rattle.eac_messages.specs.Reply.{reply_members, reply_text, rule_members, with_certificates, CanBeReplied, IsReply, IsRuleOf, AreCertificatesOf}
-use Rattle.eac_messages.proofs.WrittenBodies.{IsOfUtf8, AreItemsOfUtf8, AreMembersOfUtf8, IsWritten, object_again}
+use Rattle.eac_messages.proofs.WrittenBodies.{AreItemsOfUtf8, AreMembersOfUtf8, IsWritten, object_again}
 
 -- ---- texts of bytes
 

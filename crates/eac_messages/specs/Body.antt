@@ -1,6 +1,6 @@
 -- The JSON object that a body is the text of, and its members (RFC 8259, read as serde_json reads it: UTF-8, at most 127
 -- arrays and objects in one another, each number within a double, the last value of a name that comes twice).
-use Rattle.std.specs.Prelude.{◌≡◌, ℕ, ◌≤◌, nat_le, List, [], ◌∷◌, length, Option, Some, None, is_some, IsSome, Result, Ok, Err, if◌then◌else◌, codes}
+use Rattle.std.specs.Prelude.{◌≡◌, ℕ, ◌≤◌, nat_le, List, [], ◌∷◌, length, Option, Some, None, is_some, Result, Ok, if◌then◌else◌, codes}
 use Rattle.std.specs.Str.{is_utf8}
 use Rattle.eac_base.specs.Bytes.{is_empty}
 use Rattle.eac_base.specs.Answers.{◌>>=◌, ◌>>◌, unless, some_or, ◌gives◌}

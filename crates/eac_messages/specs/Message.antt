@@ -2,7 +2,7 @@
 use Rattle.std.specs.Prelude.{◌≡◌, ℕ, ◌≤◌, List, length, Option, Some, None, Ok, if◌then◌else◌, codes, IsUtf8}
 use Rattle.std.specs.Str.{bytes_eq}
 use Rattle.eac_base.specs.Bytes.{AreBytes}
-use Rattle.eac_base.specs.Answers.{◌>>=◌, some_or, ◌gives◌}
+use Rattle.eac_base.specs.Answers.{◌>>=◌, ◌gives◌}
 use Rattle.serde_json.specs.Data.{Data, string, array, object, Members, no_members, member}
 use Rattle.serde_json.specs.Find.{get, as_str}
 use Rattle.serde_json.specs.Written.{compact_text}

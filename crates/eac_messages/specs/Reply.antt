@@ -1,7 +1,7 @@
 -- Replies to calls (after BSI TR-03129; names, members and limits are this project's own).
 use Rattle.std.specs.Prelude.{◌≡◌, ℕ, ◌≤◌, List, [], length, Bool, true, false, ◌||◌, IsTrue, Option, Some, None, IfSome, Ok, if◌then◌else◌, codes, IsUtf8}
 use Rattle.eac_base.specs.Bytes.{is_within, is_empty}
-use Rattle.eac_base.specs.Answers.{◌>>=◌, some_or, ◌gives◌}
+use Rattle.eac_base.specs.Answers.{◌>>=◌, ◌gives◌}
 use Rattle.serde_json.specs.Data.{Data, number, string, array, object, unsigned, Members, no_members, member}
 use Rattle.serde_json.specs.Find.{get, as_str, as_number, as_u64}
 use Rattle.serde_json.specs.Written.{compact_text}

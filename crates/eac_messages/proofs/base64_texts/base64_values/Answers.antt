@@ -1,4 +1,4 @@
-use Rattle.std.proofs.Common.{◌≡◌, ap, sym, ◌∙◌, map, take, length, arith}
+use Rattle.std.proofs.Common.{◌≡◌, ap, ◌∙◌, map, take, length, arith}
 use Rattle.std.proofs.Math.Seq.{take-length}
 use Rattle.serde_json.specs.Data.{array}
 use Rattle.serde_json.specs.View.{items_of}
