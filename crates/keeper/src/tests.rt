@@ -1,10 +1,10 @@
 // What no clause says: that the calls find memory, and the answers of worked examples.
 ghost use Rattle.std.specs.Prelude.{◌≤◌, length};
-ghost use Rattle.keeper.specs.Rows.{IsStorable, IsStorableSettled};
+ghost use Rattle.keeper.specs.Rows.{IsStorable, IsStorableKey, IsStorableSettled};
 
 use crate::{
-    FadingKeeper, KeepRefusal, Keeper, KeeperPlan, MemoryKeeper, Moment, OwnPart, Part, Row,
-    Settled, Table,
+    CaPart, FadingKeeper, IssuedPart, KeepRefusal, Keeper, KeeperPlan, MemoryKeeper, Moment,
+    OwnPart, Part, Row, Rows, Settled, Table,
 };
 use chat_rights::{Kind, Rights, Role, Template};
 use cv_dates::day_from_text;
@@ -37,16 +37,22 @@ fn keeps(found: &Row, bytes: &[u8], on: &[u8; 6]) -> bool {
     }
 }
 
-// An own row of party 2 that waits for its certificate.
-fn waiting(rt: &impl Abort, alloc: Global) -> Row
-    ensures { IsStorable result }
+fn key(rt: &impl Abort, alloc: Global) -> Key
+    ensures { IsStorableKey result }
 {
-    let key = Key {
+    Key {
         algorithm: Algorithm { arc: 2, last: 3 },
         domain: Octets::new(alloc),
         point: Octets::from_slice(alloc, &[1]).expect(rt, "memory is there"),
         cofactor: Octets::new(alloc),
-    };
+    }
+}
+
+// An own row of party 2 that waits for its certificate.
+fn waiting(rt: &impl Abort, alloc: Global) -> Row
+    ensures { IsStorable result }
+{
+    let key = key(rt, alloc);
     let reference = reference(rt);
     Row {
         desk: 2,
@@ -152,6 +158,32 @@ fn readings_give_the_rows_of_a_desk_and_of_a_holder(rt: HostRuntime) {
             assert!(rt; keeper.add(alloc, &waiting(&rt, alloc)).is_ok());
         }
     }
+}
+
+#[test]
+fn rows_with_certificates_are_copied(rt: HostRuntime) {
+    let alloc = rt.alloc();
+    let parts = [
+        Part::Issued(IssuedPart {
+            request: Octets::new(alloc),
+            key: key(&rt, alloc),
+            settled: settled(&rt, alloc, b"\x01"),
+        }),
+        Part::Ca(CaPart {
+            key: key(&rt, alloc),
+            settled: settled(&rt, alloc, b"\x01"),
+        }),
+    ];
+    let mut rows = Rows::new(alloc);
+    for part in parts {
+        let row = Row {
+            desk: 2,
+            reference: reference(&rt),
+            part,
+        };
+        assert!(rt; rows.push(&row).is_ok());
+    }
+    assert_eq!(rt; rows.len(), 2);
 }
 
 #[test]
