@@ -13,12 +13,23 @@
 //! Scripts, journals and messages are left to the layers above.
 #![tactic(auto)]
 
+mod deciding;
+mod fault;
+mod issue_laws;
+mod issuing;
 mod laws;
+mod looking;
+mod making;
 mod rule;
 mod serving;
+mod signing_row;
 #[cfg(test)]
 mod tests;
+mod verdicts;
+mod vouching_row;
 
+pub use issue_laws::lists_owe;
+pub use issuing::{Answer, issue};
 pub use laws::{
     a_repeat_is_kept, a_story_goes_on, answers_are_due, one_entry_for_a_reference,
     repeats_change_nothing, repeats_decide_nothing, rows_are_the_ledger,
