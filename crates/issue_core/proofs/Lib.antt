@@ -14,3 +14,4 @@ pub mod RulesSeen
 pub mod LookedBy
 pub mod IssuedLists
 pub mod ListsOwe
+pub mod IssueStories
