@@ -16,6 +16,8 @@
 mod deciding;
 mod fault;
 mod issue_laws;
+#[cfg(test)]
+mod issue_tests;
 mod issuing;
 mod laws;
 mod looking;
