@@ -15,3 +15,4 @@ pub mod LookedBy
 pub mod IssuedLists
 pub mod ListsOwe
 pub mod IssueStories
+pub mod Caused

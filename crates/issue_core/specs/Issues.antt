@@ -4,7 +4,7 @@ use Rattle.std.specs.Prelude.{◌≡◌, ◌⊎◌, ℕ, ◌≤◌, List, [], �
 use Rattle.std.specs.Str.{bytes_eq}
 use Rattle.eac_base.specs.Causes.{Rose}
 use Rattle.holder_reference.specs.Reference.{holder_part}
-use Rattle.signature_provider.specs.Provider.{Says, Holds, public_key}
+use Rattle.signature_provider.specs.Provider.{PublicKey, Says, Holds, Signed, SaysMore, HoldsMore, KeepsHonest, public_key}
 use Rattle.cvc_grammar.specs.declared.request.Request.{Request}
 use Rattle.cvc_grammar.specs.declared.certificate.Cert.{Cert}
 use Rattle.cvc_grammar.specs.declared.certificate.CertBody.{CertBody}
@@ -122,17 +122,29 @@ outcome_of (Err fault.NoMemory) = NoMemory
 
 -- ---- causes, for every keeper and provider
 
-abbrev pub FaultCause : IssueFault → ℕ × ℕ → ℕ × ℕ → Type 0
-FaultCause fault.KeeperFault k p = Rose k.0 k.1
-FaultCause fault.ProviderFault k p = Rose p.0 p.1
-FaultCause (fault.NoKey r) k p = Unit {0}
-FaultCause fault.NoMemory k p = Unit {0}
+-- a key that the provider doesn't hold
+pub record MissingKey (holds : Holds) : Type 0 where
+  pub key : PublicKey
+  pub missing : holds key ≡ false
 
--- the counts haven't fallen, and a fault came only where its count rose
-pub record IssueCause {T : Type 0} (k p : ℕ × ℕ) (result : Result T IssueFault) : Type 0 where
+abbrev pub FaultCause : IssueFault → Holds → ℕ × ℕ → ℕ × ℕ → Type 0
+FaultCause fault.KeeperFault holds k p = Rose k.0 k.1
+FaultCause fault.ProviderFault holds k p = Rose p.0 p.1
+FaultCause (fault.NoKey r) holds k p = MissingKey holds
+FaultCause fault.NoMemory holds k p = Unit {0}
+
+-- The counts haven't fallen. A fault of keeper or provider came only where its count rose, and one on a key only where the
+-- provider didn't hold a key.
+pub record IssueCause {T : Type 0} (holds : Holds) (k p : ℕ × ℕ) (result : Result T IssueFault) : Type 0 where
   pub keeper_later : k.0 ≤ k.1
   pub provider_later : p.0 ≤ p.1
-  pub failed : IfErr result (λ e. FaultCause e k p)
+  pub failed : IfErr result (λ e. FaultCause e holds k p)
+
+-- What the provider said it still says, what it held it still holds, and it stays honest where it was.
+pub record StaysTrue (said says : Says) (held holds : Holds) (was_signed signed : Signed) : Type 0 where
+  pub says_more : SaysMore said says
+  pub holds_more : HoldsMore held holds
+  pub honest : KeepsHonest said was_signed says signed
 
 -- ---- answers by cases
 

@@ -7,7 +7,7 @@ ghost use Rattle.cvc_grammar.specs.Request.{IsRequest};
 ghost use Rattle.issue_core.specs.Rules.{Case};
 ghost use Rattle.issue_core.specs.IssueRows.{AreReadable};
 ghost use Rattle.issue_core.specs.Looks.{KeeperCaused};
-ghost use Rattle.issue_core.specs.Issues.{unreadable_answer, kept_answer, added_answer, IssueCause, Enters, Serves, outcome_of, case_of};
+ghost use Rattle.issue_core.specs.Issues.{unreadable_answer, kept_answer, added_answer, IssueCause, StaysTrue, Enters, Serves, outcome_of, case_of};
 ghost use Rattle.issue_core.specs.IssueSteps.{Ready, Allowed, Passed, Looked, Fresh, WasRead, ByLists};
 
 use crate::deciding::{Seen, first_of_seen};
@@ -137,7 +137,8 @@ fn serve_made<B: Keeper, P: SignatureProvider>(
     requires { IsRequest read request.now }
     ensures told { Told (B.rows keeper.old) (B.rows keeper.new) (λ before after. (c : Case) → c.desk ≡ desk → c.bytes ≡ request.now → Ready c read registration.now signing.now days before →
         Serves (P.says provider.new) (P.holds provider.old) c (outcome_of result) (B.faults keeper.old, B.faults keeper.new) (P.faults provider.old, P.faults provider.new) before after) }
-    ensures cause { IssueCause (B.faults keeper.old, B.faults keeper.new) (P.faults provider.old, P.faults provider.new) result }
+    ensures cause { IssueCause (P.holds provider.old) (B.faults keeper.old, B.faults keeper.new) (P.faults provider.old, P.faults provider.new) result }
+    ensures provider { StaysTrue (P.says provider.old) (P.says provider.new) (P.holds provider.old) (P.holds provider.new) (P.signed provider.old) (P.signed provider.new) }
 {
     let Ok(kept) = Octets::from_slice(alloc, request) else {
         return Err(IssueFault::NoMemory);
@@ -167,7 +168,8 @@ fn serve_due<B: Keeper, P: SignatureProvider>(
     requires { IsRequest read request.now }
     ensures told { Told (B.rows keeper.old) (B.rows keeper.new) (λ before after. (c : Case) → c.desk ≡ desk → c.day ≡ day → c.bytes ≡ request.now → Allowed c read registration.now signing.now before →
         Serves (P.says provider.new) (P.holds provider.old) c (outcome_of result) (B.faults keeper.old, B.faults keeper.new) (P.faults provider.old, P.faults provider.new) before after) }
-    ensures cause { IssueCause (B.faults keeper.old, B.faults keeper.new) (P.faults provider.old, P.faults provider.new) result }
+    ensures cause { IssueCause (P.holds provider.old) (B.faults keeper.old, B.faults keeper.new) (P.faults provider.old, P.faults provider.new) result }
+    ensures provider { StaysTrue (P.says provider.old) (P.says provider.new) (P.holds provider.old) (P.holds provider.new) (P.signed provider.old) (P.signed provider.new) }
 {
     match signing {
         None => Ok(Answer::Refused(Rule::Authority)),
@@ -210,7 +212,8 @@ fn serve_allowed<B: Keeper, P: SignatureProvider>(
     requires { IsRequest read request.now }
     ensures told { Told (B.rows keeper.old) (B.rows keeper.new) (λ before after. (c : Case) → c.desk ≡ desk → c.day ≡ day → c.bytes ≡ request.now → Passed (P.says provider.old) c read registration.now seen.now before →
         Serves (P.says provider.new) (P.holds provider.old) c (outcome_of result) (B.faults keeper.old, B.faults keeper.new) (P.faults provider.old, P.faults provider.new) before after) }
-    ensures cause { IssueCause (B.faults keeper.old, B.faults keeper.new) (P.faults provider.old, P.faults provider.new) result }
+    ensures cause { IssueCause (P.holds provider.old) (B.faults keeper.old, B.faults keeper.new) (P.faults provider.old, P.faults provider.new) result }
+    ensures provider { StaysTrue (P.says provider.old) (P.says provider.new) (P.holds provider.old) (P.holds provider.new) (P.signed provider.old) (P.signed provider.new) }
 {
     match ask(alloc, &read, &seen.vouching, provider) {
         Err(fault) => Err(fault),
@@ -243,7 +246,8 @@ fn serve_registered<B: Keeper, P: SignatureProvider>(
     requires { IsRequest read request.now }
     ensures told { Told (B.rows keeper.old) (B.rows keeper.new) (λ before after. (c : Case) → c.desk ≡ desk → c.day ≡ day → c.bytes ≡ request.now → Looked (P.says provider.old) c read registration.now before →
         Serves (P.says provider.new) (P.holds provider.old) c (outcome_of result) (B.faults keeper.old, B.faults keeper.new) (P.faults provider.old, P.faults provider.new) before after) }
-    ensures cause { IssueCause (B.faults keeper.old, B.faults keeper.new) (P.faults provider.old, P.faults provider.new) result }
+    ensures cause { IssueCause (P.holds provider.old) (B.faults keeper.old, B.faults keeper.new) (P.faults provider.old, P.faults provider.new) result }
+    ensures provider { StaysTrue (P.says provider.old) (P.says provider.new) (P.holds provider.old) (P.holds provider.new) (P.signed provider.old) (P.signed provider.new) }
 {
     match gather(alloc, desk, day, &read, registration, keeper) {
         Err(fault) => Err(fault),
@@ -278,7 +282,8 @@ fn serve_new<B: Keeper, P: SignatureProvider>(
     requires { IsRequest read request.now }
     ensures told { Told (B.rows keeper.old) (B.rows keeper.new) (λ before after. (c : Case) → c.setup ≡ setup.now → c.desk ≡ desk → c.day ≡ day → c.bytes ≡ request.now → Fresh (P.says provider.old) c read before →
         Serves (P.says provider.new) (P.holds provider.old) c (outcome_of result) (B.faults keeper.old, B.faults keeper.new) (P.faults provider.old, P.faults provider.new) before after) }
-    ensures cause { IssueCause (B.faults keeper.old, B.faults keeper.new) (P.faults provider.old, P.faults provider.new) result }
+    ensures cause { IssueCause (P.holds provider.old) (B.faults keeper.old, B.faults keeper.new) (P.faults provider.old, P.faults provider.new) result }
+    ensures provider { StaysTrue (P.says provider.old) (P.says provider.new) (P.holds provider.old) (P.holds provider.new) (P.signed provider.old) (P.signed provider.new) }
 {
     let holder = read.body.holder.holder();
     match setup.registration(desk, &holder) {
@@ -316,7 +321,8 @@ fn serve_read<B: Keeper, P: SignatureProvider>(
     requires { IsRequest read request.now }
     ensures told { Told (B.rows keeper.old) (B.rows keeper.new) (λ before after. (c : Case) → c.setup ≡ setup.now → c.desk ≡ desk → c.day ≡ day → c.bytes ≡ request.now → WasRead (P.says provider.old) c read before →
         Serves (P.says provider.new) (P.holds provider.old) c (outcome_of result) (B.faults keeper.old, B.faults keeper.new) (P.faults provider.old, P.faults provider.new) before after) }
-    ensures cause { IssueCause (B.faults keeper.old, B.faults keeper.new) (P.faults provider.old, P.faults provider.new) result }
+    ensures cause { IssueCause (P.holds provider.old) (B.faults keeper.old, B.faults keeper.new) (P.faults provider.old, P.faults provider.new) result }
+    ensures provider { StaysTrue (P.says provider.old) (P.says provider.new) (P.holds provider.old) (P.holds provider.new) (P.signed provider.old) (P.signed provider.new) }
 {
     match look(alloc, Table::Issued, desk, &read.body.holder, keeper) {
         Err(fault) => Err(fault),
@@ -339,7 +345,8 @@ fn serve<B: Keeper, P: SignatureProvider>(
         ByLists (P.says provider.old) (case_of (P.says provider.old) setup.now desk day request.now before) before →
         Serves (P.says provider.new) (P.holds provider.old) (case_of (P.says provider.old) setup.now desk day request.now before) (outcome_of result)
         (B.faults keeper.old, B.faults keeper.new) (P.faults provider.old, P.faults provider.new) before after) }
-    ensures cause { IssueCause (B.faults keeper.old, B.faults keeper.new) (P.faults provider.old, P.faults provider.new) result }
+    ensures cause { IssueCause (P.holds provider.old) (B.faults keeper.old, B.faults keeper.new) (P.faults provider.old, P.faults provider.new) result }
+    ensures provider { StaysTrue (P.says provider.old) (P.says provider.new) (P.holds provider.old) (P.holds provider.new) (P.signed provider.old) (P.signed provider.new) }
 {
     match read_request(alloc, request) {
         Err(refusal) => unreadable(refusal),
@@ -378,8 +385,10 @@ pub fn issue<B: Keeper, P: SignatureProvider>(
     ensures delivery { Told (B.rows keeper.old) (B.rows keeper.new) (λ before after. AreReadable before →
         Serves (P.says provider.new) (P.holds provider.old) (case_of (P.says provider.old) setup.now desk day request.now before) (outcome_of result)
         (B.faults keeper.old, B.faults keeper.new) (P.faults provider.old, P.faults provider.new) before after) }
-    // For every keeper and provider, the counts haven't fallen, and a fault came only where its count rose.
-    ensures cause { IssueCause (B.faults keeper.old, B.faults keeper.new) (P.faults provider.old, P.faults provider.new) result }
+    // For every keeper and provider, the counts haven't fallen, and a fault came only where its count rose or a key is
+    // missing; the provider says and holds what it did, and stays honest.
+    ensures cause { IssueCause (P.holds provider.old) (B.faults keeper.old, B.faults keeper.new) (P.faults provider.old, P.faults provider.new) result }
+    ensures provider { StaysTrue (P.says provider.old) (P.says provider.new) (P.holds provider.old) (P.holds provider.new) (P.signed provider.old) (P.signed provider.new) }
 {
     serve(alloc, setup, desk, day, request, keeper, provider)
 }

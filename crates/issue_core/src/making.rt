@@ -1,13 +1,13 @@
 // The making of the certificate that is due.
 ghost use Rattle.std.specs.Prelude.{◌≡◌, ◌≤◌, length, true, ℕ, IfOk, Ok, IsTrue};
 ghost use Rattle.holder_reference.specs.Reference.{is_reference};
-ghost use Rattle.signature_provider.specs.Provider.{SaysMore, public_key};
+ghost use Rattle.signature_provider.specs.Provider.{public_key};
 ghost use Rattle.cvc_grammar.specs.Request.{IsRequest, IsLegalRequest};
 ghost use Rattle.cvc_grammar.specs.Certificate.{IsLegalBody, IsLegalCert, IsCert};
 ghost use Rattle.issue_core.specs.Asked.{cert_message};
 ghost use Rattle.issue_core.specs.Due.{bare_key, due_body};
 ghost use Rattle.issue_core.specs.IssueRows.{settled_of};
-ghost use Rattle.issue_core.specs.Issues.{MakeCaused, IsMade, IsSigned};
+ghost use Rattle.issue_core.specs.Issues.{MakeCaused, StaysTrue, IsMade, IsSigned};
 
 use crate::IssueFault;
 use crate::signing_row::Signing;
@@ -92,7 +92,7 @@ fn sign_body<P: SignatureProvider>(
 ) -> Result<Octets, IssueFault>
     requires { IsLegalBody body.now }
     ensures made { IfOk result (λ s. IsSigned (P.says provider.new) (P.holds provider.old) signing.now body.now s) }
-    ensures grows { SaysMore (P.says provider.old) (P.says provider.new) }
+    ensures provider { StaysTrue (P.says provider.old) (P.says provider.new) (P.holds provider.old) (P.holds provider.new) (P.signed provider.old) (P.signed provider.new) }
     ensures cause { MakeCaused (P.faults provider.old) (P.faults provider.new) (P.holds provider.old (public_key signing.now.key)) signing.now.reference result }
 {
     let Ok(text) = write_body(alloc, body) else {
@@ -127,7 +127,7 @@ pub fn make<P: SignatureProvider>(
 ) -> Result<Made, IssueFault>
     requires { IsLegalRequest request.now }
     ensures made { IfOk result (IsMade (P.says provider.new) (P.holds provider.old (public_key signing.now.key)) request.now registration.now signing.now days) }
-    ensures grows { SaysMore (P.says provider.old) (P.says provider.new) }
+    ensures provider { StaysTrue (P.says provider.old) (P.says provider.new) (P.holds provider.old) (P.holds provider.new) (P.signed provider.old) (P.signed provider.new) }
     ensures cause { MakeCaused (P.faults provider.old) (P.faults provider.new) (P.holds provider.old (public_key signing.now.key)) signing.now.reference result }
 {
     stands(&signing.reference);

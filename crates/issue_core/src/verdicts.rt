@@ -35,6 +35,7 @@ fn ask_inner<P: SignatureProvider>(
     ensures verdict { IfOk result (λ yes. yes ≡ inner_says (P.says provider.old) request.now) }
     ensures says { P.says provider.new ≡ P.says provider.old }
     ensures holds { P.holds provider.new ≡ P.holds provider.old }
+    ensures signed { P.signed provider.new ≡ P.signed provider.old }
     ensures cause { VerdictCaused (P.faults provider.old) (P.faults provider.new) result }
 {
     let Ok(text) = write_request_body(alloc, &request.body) else {
@@ -63,6 +64,7 @@ fn ask_voucher<P: SignatureProvider>(
     ensures verdict { IfOk result (λ yes. yes ≡ outer_says (P.says provider.old) request.now outer.now vouching.now) }
     ensures says { P.says provider.new ≡ P.says provider.old }
     ensures holds { P.holds provider.new ≡ P.holds provider.old }
+    ensures signed { P.signed provider.new ≡ P.signed provider.old }
     ensures cause { VerdictCaused (P.faults provider.old) (P.faults provider.new) result }
 {
     let Ok(text) = write_signed_part(alloc, request) else {
@@ -92,6 +94,7 @@ fn ask_outer<P: SignatureProvider>(
     ensures rule { IfOk result (λ o. o ≡ outer_rule (P.says provider.old) request.now request.now.outer vouching.now) }
     ensures says { P.says provider.new ≡ P.says provider.old }
     ensures holds { P.holds provider.new ≡ P.holds provider.old }
+    ensures signed { P.signed provider.new ≡ P.signed provider.old }
     ensures cause { VerdictCaused (P.faults provider.old) (P.faults provider.new) result }
 {
     let Some(outer) = &request.outer else {
@@ -118,6 +121,7 @@ pub fn ask<P: SignatureProvider>(
     ensures rule { IfOk result (λ o. o ≡ verdict_rule (P.says provider.old) request.now vouching.now) }
     ensures says { P.says provider.new ≡ P.says provider.old }
     ensures holds { P.holds provider.new ≡ P.holds provider.old }
+    ensures signed { P.signed provider.new ≡ P.signed provider.old }
     ensures cause { VerdictCaused (P.faults provider.old) (P.faults provider.new) result }
 {
     if ask_inner(alloc, request, provider)? {
