@@ -1,21 +1,14 @@
 // The texts of the journal.
 ghost use Rattle.std.specs.Prelude.{◌≡◌, ℕ, List, [], ◌∷◌, ◌++◌, IfOk, IfSome, OnOk};
-ghost use Rattle.std.specs.Fmt.{decimal};
 ghost use Rattle.issue_core.specs.Register.{outcome_of};
 ghost use Rattle.eac_cli.specs.Journal.{outcome_text, numbered_line};
 ghost use Rattle.eac_cli.specs.Turn.{told_as, IsEnded};
 
+use crate::decimal::push_number;
 use eac_base::{NoMemory, Octets};
 use holder_reference::Reference;
 use issue_core::{IssueFault, RegisterAnswer};
 use std::alloc::Global;
-
-fn push_number(alloc: Global, out: &mut Octets, number: u64) -> Result<(), NoMemory>
-    ensures { OnOk result (out.new ≡ out.old ++ decimal number) }
-{
-    let text = number.to_string(alloc)?;
-    out.push_all(text.as_bytes())
-}
 
 // The word, the reference and the day on which it was given.
 fn push_given(

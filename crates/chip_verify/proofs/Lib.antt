@@ -1,0 +1,9 @@
+pub mod AcceptedChains
+pub mod GoodChains
+pub mod Grants
+pub mod LaterTrusts
+pub mod Links
+pub mod OneStep
+pub mod OwnCertificate
+pub mod SameValues
+pub mod TakenKeys

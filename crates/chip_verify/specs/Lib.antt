@@ -1,0 +1,11 @@
+pub mod Following
+pub mod GoodChain
+pub mod Grant
+pub mod Later
+pub mod Refusals
+pub mod Root
+pub mod Same
+pub mod Session
+pub mod Step
+pub mod Trust
+pub mod Views
