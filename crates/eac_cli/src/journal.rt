@@ -41,6 +41,8 @@ fn push_outcome(
             push_number(alloc, out, rule.number() as u64)
         }
         Err(IssueFault::KeeperFault) => out.push_all(b"fault keeper"),
+        Err(IssueFault::ProviderFault) => Ok(()),
+        Err(IssueFault::NoKey(_)) => Ok(()),
         Err(IssueFault::NoMemory) => Ok(()),
     }
 }
@@ -54,6 +56,13 @@ pub fn outcome_text(
     ensures { IfSome result (λ text. (text ≡ outcome_text reference.now (outcome_of answer.now)) × IsEnded (told_as reference.now (outcome_of answer.now))) }
 {
     if let Err(IssueFault::NoMemory) = answer {
+        return None;
+    }
+    // these two don't come from the register
+    if let Err(IssueFault::ProviderFault) = answer {
+        return None;
+    }
+    if let Err(IssueFault::NoKey(_)) = answer {
         return None;
     }
     let mut text = Octets::new(alloc);

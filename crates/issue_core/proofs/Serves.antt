@@ -1,5 +1,5 @@
 -- A call of the register is one delivery.
-use Rattle.std.proofs.Common.{◌≡◌, ℕ, ◌<◌, ◌≤◌, Bool, true, false, cond, List, [], ◌∷◌, ◌++◌, length, Some, None, Ok, Err, refl, sym, ap, ◌∙◌, subst, arith, append-nil, ⊎_elim, true≢false, nat_eq}
+use Rattle.std.proofs.Common.{◌≡◌, ℕ, ◌<◌, ◌≤◌, Bool, true, false, cond, List, [], ◌∷◌, ◌++◌, length, Some, None, Ok, Err, refl, sym, ap, ◌∙◌, subst, arith, append-nil, ⊎_elim, inl, inr, true≢false, nat_eq}
 use Rattle.std.specs.Prelude.{◌&&◌, IfSome}
 use Rattle.std.specs.declared.option.Option.{Option}
 use Rattle.std.specs.declared.result.Result.{Result}
@@ -9,20 +9,22 @@ use Rattle.keeper.specs.declared.rows.Part.{Part}
 use Rattle.keeper.specs.declared.rows.Table.TheVariants.{Register as RegisterTable}
 use Rattle.std.specs.Str.{bytes_eq}
 use Rattle.eac_base.specs.Telling.{Told}
-use Rattle.eac_base.proofs.Tellings.{told_then}
+use Rattle.eac_base.proofs.Tellings.{told_then, told_more}
 use Rattle.keeper.specs.declared.rows.Part.TheVariants as part
 use Rattle.keeper.specs.Rows.{table_of, same_table, has_key, row_at, rows_of, most_rows, UniqueKeys}
-use Rattle.keeper.specs.Keeping.{MayAdd}
+use Rattle.keeper.specs.Keeping.{MayAdd, Adds as KeeperAdds}
+use Rattle.keeper.specs.declared.traits.KeepRefusal.{KeepRefusal}
+use Rattle.keeper.specs.declared.traits.KeepRefusal.TheVariants.{Failed, Full as KeeperFull, Twice, Absent, NoMemory as KeeperNoMemory}
 use Rattle.issue_core.specs.declared.rule.Rule.{Rule}
 use Rattle.issue_core.specs.declared.rule.Rule.TheVariants.{Used, Full}
 use Rattle.issue_core.specs.declared.serving.RegisterAnswer.{RegisterAnswer}
 use Rattle.issue_core.specs.declared.serving.RegisterAnswer.TheVariants.{Issued, Kept, Refused}
 use Rattle.issue_core.specs.declared.serving.IssueFault.{IssueFault}
-use Rattle.issue_core.specs.declared.serving.IssueFault.TheVariants.{KeeperFault, NoMemory}
+use Rattle.issue_core.specs.declared.serving.IssueFault.TheVariants.{KeeperFault, ProviderFault, NoKey, NoMemory}
 use Rattle.issue_core.specs.Ledger.{Outcome, Issued as IssuedOutcome, Faulted, MayLeave, faces}
 use Rattle.issue_core.specs.Story.{Adds}
 use Rattle.issue_core.specs.Register.{Asked, Fault, KeeperFailed, register, unsigned, delivery_of, Serves, entries_of, bytes_of, day_of, again_of, outcome_of, row_of}
-use Rattle.issue_core.specs.Steps.{Looks, Enters}
+use Rattle.issue_core.specs.Steps.{Looks, Enters, answer_of}
 use Rattle.issue_core.proofs.Ledger.{Seen, lacks_both, unused, none_lacks, face_count, seen, used_rule, full_rule, no_rule, unique_ledger}
 
 -- ---- what a look answers
@@ -91,6 +93,8 @@ entered before after asked counts (Err KeeperFault) may h cause =
     (λ (e : after ≡ before). record { left = None; decides = record { left = tt; told = cause refl }; rows = unchanged after before e })
     (λ (e : after ≡ before ++ row_asked asked ∷ []). record { left = Some asked.day; decides = record { left = may_issue before asked counts (Faulted KeeperFailed) may tt; told = cause refl }; rows = e })
     h
+entered before after asked counts (Err ProviderFault) may h cause = absurd h
+entered before after asked counts (Err (NoKey reference)) may h cause = absurd h
 entered before after asked counts (Err NoMemory) may h cause = record { left = None; decides = record { left = tt; told = tt }; rows = unchanged after before h }
 
 -- a count that rose later rose
@@ -108,3 +112,18 @@ serves_new old mid new asked counts found result is looked entry cause = told_th
     let none : Looks before asked.reference asked.bytes (Ok None) = subst (λ o. Looks before asked.reference asked.bytes (Ok o)) is l.1 in
     let may : MayAdd before (row_asked asked) = record { new = none.0; room = none.1 } in
     entered before after asked counts result may (subst (λ rows. MayAdd rows (row_asked asked) → Enters rows after (row_asked asked) result) l.0 e may) cause)
+
+-- ---- what any keeper answers to an adding
+
+enters_as : {U : Type 0} (before after : List Row) (row : Row) (day bytes : List ℕ) (added : Result U KeepRefusal) → day ≡ day_of row.part → MayAdd before row → KeeperAdds before after row added → Enters before after row (answer_of added day bytes)
+enters_as before after row day bytes (Ok u) is may a = (is, a.1)
+enters_as before after row day bytes (Err Failed) is may (inl e) = inl e
+enters_as before after row day bytes (Err Failed) is may (inr e) = inr e.1
+enters_as before after row day bytes (Err KeeperFull) is may a = let room = may.room in let full = a.2 in absurd (omega (arith, room, full))
+enters_as before after row day bytes (Err (Twice kept)) is may a = let new = may.new in let there = a.1 in absurd (cc (new, there))
+enters_as before after row day bytes (Err Absent) is may a = absurd a
+enters_as before after row day bytes (Err KeeperNoMemory) is may a = a
+
+pub told_enters : {U : Type 0} (old new : Option (List Row)) (asked row : Row) (day bytes : List ℕ) (added : Result U KeepRefusal) (result : Result RegisterAnswer IssueFault) → row ≡ asked → day ≡ day_of asked.part → result ≡ answer_of added day bytes → Told old new (λ before after. KeeperAdds before after row added) → Told old new (λ before after. MayAdd before asked → Enters before after asked result)
+told_enters old new asked row day bytes added result row_is is answered told = told_more (λ before after. KeeperAdds before after row added) (λ before after. MayAdd before asked → Enters before after asked result) old new told
+    (λ before after a may. subst (λ (r : Result RegisterAnswer IssueFault). Enters before after asked r) (sym answered) (enters_as before after asked day bytes added is may (subst (λ (x : Row). KeeperAdds before after x added) row_is a)))

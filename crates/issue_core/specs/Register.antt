@@ -1,5 +1,5 @@
 -- The plain register as a desk: a reference with bytes is the request, and the day is what is given (this project's own).
-use Rattle.std.specs.Prelude.{◌≡◌, ℕ, ◌≤◌, ◌&&◌, Bool, true, not, nat_le, List, [], ◌∷◌, ◌++◌, length, map, flat_map, Some, None, Ok, Err, if◌then◌else◌}
+use Rattle.std.specs.Prelude.{◌≡◌, ℕ, ◌≤◌, ◌&&◌, Bool, true, not, nat_le, List, [], ◌∷◌, ◌++◌, length, map, flat_map, Some, None, Ok, Err, IfErr, if◌then◌else◌}
 use Rattle.std.specs.declared.option.Option.{Option}
 use Rattle.std.specs.declared.result.Result.{Result}
 use Rattle.std.specs.List.{list_any}
@@ -15,7 +15,7 @@ use Rattle.issue_core.specs.declared.rule.Rule.TheVariants.{Used, Full}
 use Rattle.issue_core.specs.declared.serving.RegisterAnswer.{RegisterAnswer}
 use Rattle.issue_core.specs.declared.serving.RegisterAnswer.TheVariants.{Issued as AnswerIssued, Kept as AnswerKept, Refused as AnswerRefused}
 use Rattle.issue_core.specs.declared.serving.IssueFault.{IssueFault}
-use Rattle.issue_core.specs.declared.serving.IssueFault.TheVariants.{KeeperFault, NoMemory as FaultNoMemory}
+use Rattle.issue_core.specs.declared.serving.IssueFault.TheVariants.{KeeperFault, ProviderFault, NoKey, NoMemory as FaultNoMemory}
 use Rattle.issue_core.specs.Ledger.{Desk, TheKeeper, Entry, Outcome, Issued, Kept, Refused, Faulted, NoMemory, Delivery}
 use Rattle.issue_core.specs.Story.{Decides, Story}
 
@@ -75,11 +75,6 @@ RegisterStory = Story register unsigned
 abbrev pub delivery_of : Asked → ℕ × ℕ → Outcome (List ℕ) Rule Fault → Option (List ℕ) → Delivery Asked (List ℕ) Rule Fault
 delivery_of asked counts outcome left = record { case_of = asked; outcome = outcome; left = left; keeper = counts; provider = (0, 0); held = true }
 
--- the number by which a journal tells a rule
-abbrev pub number_of : Rule → ℕ
-number_of Used = 2
-number_of Full = 12
-
 -- ---- its rows
 
 abbrev pub bytes_of : Part → List ℕ
@@ -128,12 +123,14 @@ pub record Serves (before after : List Row) (asked : Asked) (counts : ℕ × ℕ
   pub decides : Decides register unsigned (entries_of before) (delivery_of asked counts outcome left)
   pub rows : after ≡ before ++ rows_left asked left
 
--- the answer of a call as the outcome of a delivery
+-- the answer of a call as the outcome of a delivery; the two faults that have to do with a provider never come
 abbrev pub outcome_of : Result RegisterAnswer IssueFault → Outcome (List ℕ) Rule Fault
 outcome_of (Ok (AnswerIssued day)) = Issued day
 outcome_of (Ok (AnswerKept day)) = Kept day
 outcome_of (Ok (AnswerRefused rule)) = Refused rule
 outcome_of (Err KeeperFault) = Faulted KeeperFailed
+outcome_of (Err ProviderFault) = NoMemory
+outcome_of (Err (NoKey reference)) = NoMemory
 outcome_of (Err FaultNoMemory) = NoMemory
 
 -- what is answered where the reference has a row
@@ -143,7 +140,15 @@ again_of (part.Issued p) bytes = AnswerRefused Used
 again_of (part.Own p) bytes = AnswerRefused Used
 again_of (part.Ca p) bytes = AnswerRefused Used
 
--- the count of faults has not fallen, and the keeper's fault came only where it rose
+-- of the faults only the keeper's comes
+abbrev pub IsKeepers : IssueFault → Type 0
+IsKeepers KeeperFault = Unit {0}
+IsKeepers ProviderFault = ⊥
+IsKeepers (NoKey reference) = ⊥
+IsKeepers FaultNoMemory = Unit {0}
+
+-- the count of faults has not fallen, and the keeper's fault came only where it rose, and no other fault
 pub record HasCause {T : Type 0} (before now : ℕ) (result : Result T IssueFault) : Type 0 where
   pub later : before ≤ now
   pub failed : result ≡ Err KeeperFault → Rose before now
+  pub only : IfErr result IsKeepers

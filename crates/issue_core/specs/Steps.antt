@@ -11,7 +11,7 @@ use Rattle.issue_core.specs.declared.rule.Rule.TheVariants.{Full}
 use Rattle.issue_core.specs.declared.serving.RegisterAnswer.{RegisterAnswer}
 use Rattle.issue_core.specs.declared.serving.RegisterAnswer.TheVariants.{Issued, Refused}
 use Rattle.issue_core.specs.declared.serving.IssueFault.{IssueFault}
-use Rattle.issue_core.specs.declared.serving.IssueFault.TheVariants.{KeeperFault, NoMemory}
+use Rattle.issue_core.specs.declared.serving.IssueFault.TheVariants.{KeeperFault, ProviderFault, NoKey, NoMemory}
 use Rattle.issue_core.specs.Register.{again_of, day_of}
 
 -- what a look answers: the row of the reference, or a full table, or nothing
@@ -26,6 +26,8 @@ abbrev pub Enters : List Row → List Row → Row → Result RegisterAnswer Issu
 Enters old new row (Ok (Issued day)) = (day ≡ day_of row.part) × (new ≡ old ++ row ∷ [])
 Enters old new row (Ok other) = ⊥
 Enters old new row (Err KeeperFault) = (new ≡ old) ⊎ (new ≡ old ++ row ∷ [])
+Enters old new row (Err ProviderFault) = ⊥
+Enters old new row (Err (NoKey reference)) = ⊥
 Enters old new row (Err NoMemory) = new ≡ old
 
 -- what is answered to an adding, as any keeper may answer it
