@@ -1,0 +1,14 @@
+pub mod DeviceWork
+pub mod Greatest
+pub mod ImportActs
+pub mod LaterActs
+pub mod Looking
+pub mod NewState
+pub mod NextSlots
+pub mod RecordTexts
+pub mod Recordings
+pub mod Records
+pub mod Replaying
+pub mod RunsOfActs
+pub mod SlotWrites
+pub mod Slots

@@ -1,0 +1,16 @@
+pub mod Acts
+pub mod ActsOf
+pub mod Chips
+pub mod Crash
+pub mod Found
+pub mod Gates
+pub mod Image
+pub mod Moments
+pub mod Points
+pub mod Providers
+pub mod Ready
+pub mod Recorded
+pub mod RecordedSizes
+pub mod Replays
+pub mod Slot
+pub mod Steps

@@ -1,0 +1,137 @@
+// The record of a slot, written.
+ghost use Rattle.std.specs.Prelude.{◌≡◌, ◌≤◌, ◌<◌, ◌+◌, ◌^◌, ◌++◌, length, IfSome, IsTrue};
+ghost use Rattle.eac_base.specs.Bytes.{big_endian};
+ghost use Rattle.chip_verify.specs.Trust.{IsPoint, ComesBefore};
+ghost use Rattle.chat_rights.specs.Template.{role_number, template_byte};
+ghost use Rattle.chip_slots.specs.Slot as words;
+
+use arrayvec::ArrayVec;
+use chat_rights::{Role, Template};
+use chip_verify::laws::states_are_legal;
+use chip_verify::{ChipKey, ChipState, TrustPoint};
+
+/// A record as long as a slot has room for it.
+pub type RecordBytes = ArrayVec<u8, 8191>;
+
+fn put(record: &mut RecordBytes, bytes: &[u8])
+    requires { length record.old.items + length bytes.now ≤ 8191 }
+    ensures { record.new.items ≡ record.old.items ++ bytes.now }
+{
+    let _ = record.try_extend_from_slice(bytes);
+}
+
+fn one_byte(number: usize) -> [u8; 1]
+    ensures { result ≡ big_endian 1 number }
+{
+    [(number % 256) as u8]
+}
+
+fn two_bytes(number: u64) -> [u8; 2]
+    ensures { result ≡ big_endian 2 number }
+{
+    [(number / 256 % 256) as u8, (number % 256) as u8]
+}
+
+fn eight_bytes(number: u64) -> [u8; 8]
+    ensures { result ≡ big_endian 8 number }
+{
+    let a = number / 256;
+    let b = a / 256;
+    let c = b / 256;
+    let d = c / 256;
+    let e = d / 256;
+    let f = e / 256;
+    let g = f / 256;
+    [
+        (g % 256) as u8,
+        (f % 256) as u8,
+        (e % 256) as u8,
+        (d % 256) as u8,
+        (c % 256) as u8,
+        (b % 256) as u8,
+        (a % 256) as u8,
+        (number % 256) as u8,
+    ]
+}
+
+fn put_key(record: &mut RecordBytes, key: &ChipKey)
+    requires { length record.old.items + 2054 ≤ 8191 }
+    ensures bytes { record.new.items ≡ record.old.items ++ words.key_text key.now }
+    ensures size { length record.new.items ≤ length record.old.items + 2054 }
+    ensures parts { (length key.now.domain ≤ 1024) × (length key.now.point ≤ 1024) }
+{
+    let view = key.view();
+    put(record, &[view.algorithm.arc, view.algorithm.last]);
+    put(record, &two_bytes(view.domain.len() as u64));
+    put(record, view.domain);
+    put(record, &two_bytes(view.point.len() as u64));
+    put(record, view.point);
+}
+
+fn role_number(role: Role) -> u8
+    ensures number { result ≡ role_number role }
+    ensures small { result < 4 }
+{
+    match role {
+        Role::Terminal => 0,
+        Role::Foreign => 1,
+        Role::Domestic => 2,
+        Role::Cvca => 3,
+    }
+}
+
+fn template_byte(template: Template) -> u8
+    ensures byte { result ≡ template_byte template }
+    ensures rights { template.rights < 64 }
+{
+    64 * role_number(template.role) + template.rights.bits() as u8
+}
+
+fn put_point(record: &mut RecordBytes, point: &TrustPoint)
+    requires { length record.old.items + 2076 ≤ 8191 }
+    ensures bytes { record.new.items ≡ record.old.items ++ words.point_text point.now }
+    ensures size { length record.new.items ≤ length record.old.items + 2076 }
+    ensures kept { IsPoint point.now → IsTrue (words.is_kept_point point.now) }
+{
+    let reference = point.reference.as_slice();
+    put(record, &one_byte(reference.len()));
+    put(record, reference);
+    put(record, &[template_byte(point.template)]);
+    put(record, &two_bytes(point.from.number() as u64));
+    put(record, &two_bytes(point.until.number() as u64));
+    put_key(record, &point.key);
+}
+
+fn put_points(record: &mut RecordBytes, older: &Option<TrustPoint>, newest: &TrustPoint)
+    requires { length record.old.items + 4153 ≤ 8191 }
+    ensures bytes { record.new.items ≡ record.old.items ++ words.points_text older.now newest.now }
+    ensures size { length record.new.items ≤ length record.old.items + 4153 }
+    ensures kept { IsPoint newest.now → IfSome older.now (λ p. IsPoint p × ComesBefore p newest.now) → IsTrue (words.are_kept_points older.now newest.now) }
+{
+    match older {
+        None => {
+            put(record, &[1]);
+            put_point(record, newest);
+        }
+        Some(older) => {
+            put(record, &[2]);
+            put_point(record, older);
+            put_point(record, newest);
+        }
+    }
+}
+
+/// The record of this state and generation.
+pub fn write_record(state: &ChipState, generation: u64) -> RecordBytes
+    ensures bytes { result.items ≡ words.record_text state.now generation }
+    ensures short { length result.items ≤ 8191 }
+    ensures kept { IsTrue (words.is_kept_trust state.now) }
+{
+    states_are_legal(state);
+    let mut record = RecordBytes::new();
+    put(&mut record, &[1]);
+    put(&mut record, &eight_bytes(generation));
+    put(&mut record, &two_bytes(state.day.number() as u64));
+    put_points(&mut record, &state.older, &state.newest);
+    record
+}

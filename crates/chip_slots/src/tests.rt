@@ -1,0 +1,278 @@
+// A chip's memory under every crash, with certificates of another program.
+mod certs;
+
+use self::certs::{DOMESTIC, FIRST_TO_SECOND, ROOT, SECOND_TO_THIRD};
+use crate::memory_reading::is_memory;
+use crate::{Chip, ChipDisk, ChipRefusal, MakeRefusal, MemoryDisk, make_chip, open_chip};
+use chip_verify::Imported;
+use cv_dates::day_from_text;
+use cvc_grammar::view_cert;
+use eac_base::{FailPlan, Octets};
+use signature_provider::DigestProvider;
+use std::alloc::Global;
+use std::process::Abort;
+
+const TORN: [u8; 3] = [0x00, 0xa5, 0xff];
+
+const RINGS: [u64; 3] = [2, 3, 16];
+
+fn zeros(rt: &impl Abort, alloc: Global, bytes: u64) -> Octets {
+    let mut zeros = Octets::new(alloc);
+    for _ in 0..bytes / 8 {
+        zeros.push_all(&[0; 8]).expect(rt, "memory");
+    }
+    zeros
+}
+
+fn failing(rt: &impl Abort, alloc: Global, calls: &[u64]) -> FailPlan {
+    let mut plan = FailPlan::new(alloc);
+    for call in calls {
+        plan.push(*call).expect(rt, "memory");
+    }
+    plan
+}
+
+fn made(rt: &impl Abort, disk: &mut MemoryDisk) -> Result<(), MakeRefusal> {
+    let Ok(root) = view_cert(ROOT) else {
+        panic!(rt; "a certificate");
+    };
+    let day = day_from_text(b"240101").expect(rt, "a day");
+    if disk.reserve().is_err() {
+        panic!(rt; "memory");
+    }
+    make_chip(disk, &root, day)
+}
+
+fn opened(rt: &impl Abort, disk: &mut MemoryDisk) -> Result<Chip, ChipRefusal> {
+    if disk.reserve().is_err() {
+        panic!(rt; "memory");
+    }
+    open_chip(disk)
+}
+
+fn generation_of(chip: Result<Chip, ChipRefusal>) -> Result<u64, ChipRefusal> {
+    match chip {
+        Ok(chip) => Ok(chip.generation()),
+        Err(refusal) => Err(refusal),
+    }
+}
+
+fn given(
+    rt: &impl Abort,
+    alloc: Global,
+    chip: &mut Chip,
+    disk: &mut MemoryDisk,
+    bytes: &[u8],
+) -> Result<Imported, ChipRefusal> {
+    let mut provider = DigestProvider::new(alloc, [0; 32]);
+    if disk.reserve().is_err() || !is_memory(disk.len()) {
+        panic!(rt; "a memory");
+    }
+    chip.import(disk, &mut provider, bytes)
+}
+
+/// The generation that an image reads as, and one more; 0 for none.
+fn read_of(rt: &impl Abort, alloc: Global, image: Octets) -> u64 {
+    let mut disk = MemoryDisk::new(alloc, image, FailPlan::new(alloc), None);
+    match opened(rt, &mut disk) {
+        Ok(chip) => chip.generation().saturating_add(1),
+        Err(ChipRefusal::NoChip) => 0,
+        Err(_) => panic!(rt; "no call fails here"),
+    }
+}
+
+fn crashed(rt: &impl Abort, alloc: Global, disk: &MemoryDisk, moment: u64, torn: u8) -> u64 {
+    if disk.calls() < moment {
+        panic!(rt; "a moment that was");
+    }
+    match disk.crashed(alloc, moment, torn) {
+        Ok(image) => read_of(rt, alloc, image),
+        Err(_) => panic!(rt; "memory"),
+    }
+}
+
+/// A made and opened chip on a memory of so many slots.
+fn chip_on(
+    rt: &impl Abort,
+    alloc: Global,
+    slots: u64,
+    plan: FailPlan,
+    stop: Option<u64>,
+) -> (Chip, MemoryDisk) {
+    let bytes = zeros(rt, alloc, slots.saturating_mul(8192));
+    let mut disk = MemoryDisk::new(alloc, bytes, plan, stop);
+    assert_eq!(rt; made(rt, &mut disk), Ok(()));
+    match opened(rt, &mut disk) {
+        Ok(chip) => (chip, disk),
+        Err(_) => panic!(rt; "a chip"),
+    }
+}
+
+/// How many of these moments had come.
+fn come(moment: u64, moments: &[u64]) -> u64 {
+    let mut count: u64 = 0;
+    for begun in moments {
+        if *begun <= moment {
+            count = count.saturating_add(1);
+        }
+    }
+    count
+}
+
+/// What a crash at a moment leaves: at least the states that were answered, at most those that were begun.
+fn is_between(
+    rt: &impl Abort,
+    alloc: Global,
+    disk: &MemoryDisk,
+    moment: u64,
+    begun: &[u64],
+    answered: &[u64],
+) -> bool {
+    let (least, most) = (come(moment, answered), come(moment, begun));
+    for torn in TORN {
+        let read = crashed(rt, alloc, disk, moment, torn);
+        if read < least || most < read {
+            return false;
+        }
+    }
+    true
+}
+
+#[test]
+fn every_crash_leaves_the_state_before_or_after_a_call(rt: HostRuntime) {
+    let alloc = rt.alloc();
+    for slots in RINGS {
+        let (mut chip, mut disk) = chip_on(&rt, alloc, slots, FailPlan::new(alloc), None);
+        let made = slots.saturating_add(6);
+        let first = disk.calls();
+        let link = given(&rt, alloc, &mut chip, &mut disk, FIRST_TO_SECOND);
+        assert_eq!(rt; link, Ok(Imported::Link));
+        let second = disk.calls();
+        let link = given(&rt, alloc, &mut chip, &mut disk, SECOND_TO_THIRD);
+        assert_eq!(rt; link, Ok(Imported::Link));
+        let last = disk.calls();
+        assert_eq!(rt; second, first.saturating_add(5));
+        for moment in 0..last.saturating_add(1) {
+            let fits = is_between(
+                &rt,
+                alloc,
+                &disk,
+                moment,
+                &[1, first, second],
+                &[made, second, last],
+            );
+            assert!(rt; fits);
+        }
+    }
+}
+
+#[test]
+fn a_link_that_is_stopped_anywhere_is_there_or_not(rt: HostRuntime) {
+    let alloc = rt.alloc();
+    for slots in RINGS {
+        let begun = slots.saturating_mul(2).saturating_add(7);
+        for stop in begun..begun.saturating_add(5) {
+            let (mut chip, mut disk) = chip_on(&rt, alloc, slots, FailPlan::new(alloc), Some(stop));
+            let link = given(&rt, alloc, &mut chip, &mut disk, FIRST_TO_SECOND);
+            assert_eq!(rt; link, Err(ChipRefusal::DiskFault));
+            let again = given(&rt, alloc, &mut chip, &mut disk, FIRST_TO_SECOND);
+            assert_eq!(rt; again, Err(ChipRefusal::NeedsOpen));
+            let fits = is_between(&rt, alloc, &disk, disk.calls(), &[0, 0], &[0]);
+            assert!(rt; fits);
+        }
+    }
+}
+
+#[test]
+fn a_failed_gate_is_settled_by_an_opening(rt: HostRuntime) {
+    let alloc = rt.alloc();
+    for slots in RINGS {
+        let gate = slots.saturating_mul(2).saturating_add(11);
+        let plan = failing(&rt, alloc, &[gate, gate.saturating_add(1)]);
+        let (mut chip, mut disk) = chip_on(&rt, alloc, slots, plan, None);
+        let link = given(&rt, alloc, &mut chip, &mut disk, FIRST_TO_SECOND);
+        assert_eq!(rt; link, Err(ChipRefusal::DiskFault));
+        let again = given(&rt, alloc, &mut chip, &mut disk, FIRST_TO_SECOND);
+        assert_eq!(rt; again, Err(ChipRefusal::NeedsOpen));
+        assert_eq!(rt;
+            generation_of(opened(&rt, &mut disk)),
+            Err(ChipRefusal::DiskFault)
+        );
+        let Ok(generation) = generation_of(opened(&rt, &mut disk)) else {
+            panic!(rt; "a chip");
+        };
+        assert!(rt; generation <= 1);
+        for torn in TORN {
+            let read = crashed(&rt, alloc, &disk, disk.calls(), torn);
+            assert_eq!(rt; read, generation.saturating_add(1));
+        }
+    }
+}
+
+/// The memory of one chip with its only record moved to the last generation.
+fn worn(rt: &impl Abort, alloc: Global, slots: u64, image: &[u8]) -> Octets {
+    let record = image.get(10..8192).expect(rt, "a slot");
+    let mut worn = Octets::new(alloc);
+    for slot in 0..slots {
+        if u64::MAX % slots.max(1) == slot {
+            worn.push_all(&[0xa5, 1, 255, 255, 255, 255, 255, 255, 255, 255])
+                .expect(rt, "memory");
+            worn.push_all(record).expect(rt, "memory");
+        } else {
+            worn.push_all(&[0; 8192]).expect(rt, "memory");
+        }
+    }
+    worn
+}
+
+#[test]
+fn a_worn_chip_keeps_its_state(rt: HostRuntime) {
+    let alloc = rt.alloc();
+    for slots in RINGS {
+        let (_, disk) = chip_on(&rt, alloc, slots, FailPlan::new(alloc), None);
+        let image = disk.crashed(alloc, disk.calls(), 0).expect(&rt, "memory");
+        let bytes = worn(&rt, alloc, slots, image.as_slice());
+        let mut disk = MemoryDisk::new(alloc, bytes, FailPlan::new(alloc), None);
+        let Ok(mut chip) = opened(&rt, &mut disk) else {
+            panic!(rt; "a chip");
+        };
+        assert_eq!(rt; chip.generation(), u64::MAX);
+        assert_eq!(rt;
+            given(&rt, alloc, &mut chip, &mut disk, DOMESTIC),
+            Err(ChipRefusal::Worn)
+        );
+        assert_eq!(rt;
+            given(&rt, alloc, &mut chip, &mut disk, ROOT),
+            Ok(Imported::Held)
+        );
+        assert_eq!(rt;
+            given(&rt, alloc, &mut chip, &mut disk, b"no certificate").is_err(),
+            true
+        );
+    }
+}
+
+#[test]
+fn a_memory_has_two_to_sixteen_slots(rt: HostRuntime) {
+    let alloc = rt.alloc();
+    let table: [(u64, Result<(), MakeRefusal>); 6] = [
+        (8_192, Err(MakeRefusal::Size)),
+        (16_384, Ok(())),
+        (20_000, Err(MakeRefusal::Size)),
+        (24_576, Ok(())),
+        (131_072, Ok(())),
+        (139_264, Err(MakeRefusal::Size)),
+    ];
+    for (bytes, answer) in table {
+        let memory = zeros(&rt, alloc, bytes);
+        let mut disk = MemoryDisk::new(alloc, memory, FailPlan::new(alloc), None);
+        assert_eq!(rt; made(&rt, &mut disk), answer);
+        let again = if answer.is_ok() {
+            Err(MakeRefusal::Made)
+        } else {
+            answer
+        };
+        assert_eq!(rt; made(&rt, &mut disk), again);
+        assert_eq!(rt; opened(&rt, &mut disk).is_ok(), answer.is_ok());
+    }
+}
