@@ -9,13 +9,15 @@
 //! stores what follows. Each says of every image at every moment from its start to its return what it reads as. No call
 //! of a chip takes memory. The functions of `laws` carry this over whole runs of calls.
 //!
-//! [`MemoryDisk`] keeps every call, fails by a plan, and gives the images that a crash may leave. Which certificates come,
-//! and when a chip is opened, is left to the layers above.
+//! [`MemoryDisk`] keeps every call, fails by a plan, and gives the images that a crash may leave. [`FileDisk`] is a file
+//! and tells nothing: what stands there after a crash is the operating system's to keep. Which certificates come, and when
+//! a chip is opened, is left to the layers above.
 #![tactic(auto)]
 
 mod answers;
 mod chip;
 mod disk;
+mod file_disk;
 mod gates;
 mod importing;
 pub mod laws;
@@ -32,5 +34,6 @@ mod tests;
 pub use answers::{ChipRefusal, MakeRefusal};
 pub use chip::{Chip, open_chip};
 pub use disk::ChipDisk;
+pub use file_disk::FileDisk;
 pub use making::make_chip;
 pub use memory_disk::MemoryDisk;

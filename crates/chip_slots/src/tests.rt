@@ -3,13 +3,14 @@ mod certs;
 
 use self::certs::{DOMESTIC, FIRST_TO_SECOND, ROOT, SECOND_TO_THIRD};
 use crate::memory_reading::is_memory;
-use crate::{Chip, ChipDisk, ChipRefusal, MakeRefusal, MemoryDisk, make_chip, open_chip};
+use crate::{Chip, ChipDisk, ChipRefusal, FileDisk, MakeRefusal, MemoryDisk, make_chip, open_chip};
 use chip_verify::Imported;
 use cv_dates::day_from_text;
 use cvc_grammar::view_cert;
 use eac_base::{FailPlan, Octets};
 use signature_provider::DigestProvider;
 use std::alloc::Global;
+use std::fs;
 use std::process::Abort;
 
 const TORN: [u8; 3] = [0x00, 0xa5, 0xff];
@@ -275,4 +276,24 @@ fn a_memory_has_two_to_sixteen_slots(rt: HostRuntime) {
         assert_eq!(rt; made(&rt, &mut disk), again);
         assert_eq!(rt; opened(&rt, &mut disk).is_ok(), answer.is_ok());
     }
+}
+
+#[test]
+fn a_chip_in_a_file_is_made_once_and_opened_again(rt: HostRuntime) {
+    let path = "chip_slots_test_disk";
+    // what an earlier run left
+    let _ = fs::remove_file(&rt, path);
+    let Ok(mut disk) = FileDisk::make(&rt, path, 16_384) else {
+        panic!(rt; "a file");
+    };
+    let Ok(root) = view_cert(ROOT) else {
+        panic!(rt; "a certificate");
+    };
+    let day = day_from_text(b"240101").expect(&rt, "a day");
+    assert!(rt; matches!(open_chip(&mut disk), Err(ChipRefusal::NoChip)));
+    assert!(rt; make_chip(&mut disk, &root, day).is_ok());
+    assert!(rt; matches!(make_chip(&mut disk, &root, day), Err(MakeRefusal::Made)));
+    assert!(rt; matches!(generation_of(open_chip(&mut disk)), Ok(0)));
+    assert!(rt; FileDisk::make(&rt, path, 16_384).is_err());
+    assert!(rt; fs::remove_file(&rt, path).is_ok());
 }

@@ -5,6 +5,7 @@ use Rattle.std.specs.declared.option.Option.{Option}
 use Rattle.std.specs.Io.KnownBytes.{Consumes}
 use Rattle.eac_base.specs.Causes.{Rose}
 use Rattle.keeper.specs.declared.rows.Row.{Row}
+use Rattle.policy_limits.specs.Roster.{Roster}
 use Rattle.eac_cli.specs.declared.event.EventLine.{EventLine}
 use Rattle.eac_cli.specs.declared.running.Stop.{Stop}
 use Rattle.eac_cli.specs.declared.running.Stop.TheVariants.{WriteFault as StopWriteFault, NoMemory as StopNoMemory}
@@ -15,14 +16,14 @@ use Rattle.eac_cli.specs.Top.{Shows, IsShown, WasRead, Whole, Stopped, Claim, Is
 use Rattle.eac_cli.proofs.Orders.{no_fault, fault_is_one}
 
 module _ (rows rows' : Option (List Row)) (f f' : ℕ) (s t left : Option (List ℕ)) (bytes : List ℕ) (done : ℕ) where
-  ended : (stop : Option Stop) (lines : List EventLine) → WasRead left bytes → IsScript bytes lines → (stop ≡ None → Whole rows rows' f f' s t lines done) → IfSome stop (λ x. Stopped rows rows' f f' s t x lines done) → Claim rows rows' f f' s t left (status_of stop) done bytes
-  ended None lines all is whole some = (all, lines, is, whole refl)
-  ended (Some StopWriteFault) lines all is whole some = (all, lines, is, some)
-  ended (Some StopNoMemory) lines all is whole some = inr (all, lines, is, some)
+  ended : (stop : Option Stop) (setup : Roster) (lines : List EventLine) → WasRead left bytes → IsScript bytes setup lines → (stop ≡ None → Whole rows rows' f f' s t lines done) → IfSome stop (λ x. Stopped rows rows' f f' s t x lines done) → Claim rows rows' f f' s t left (status_of stop) done bytes
+  ended None setup lines all is whole some = (all, setup, lines, is, whole refl)
+  ended (Some StopWriteFault) setup lines all is whole some = (all, setup, lines, is, some)
+  ended (Some StopNoMemory) setup lines all is whole some = inr (all, setup, lines, is, some)
 
-  pub run_claim : (stop : Option Stop) (status : Status) (lines slice : List EventLine) → status ≡ status_of stop → slice ≡ lines → WasRead left bytes → IsScript bytes lines → (stop ≡ None → Whole rows rows' f f' s t slice done) → IfSome stop (λ x. Stopped rows rows' f f' s t x slice done) → Claim rows rows' f f' s t left status done bytes
-  run_claim stop status lines slice e same all is whole some =
-      subst (λ x. Claim rows rows' f f' s t left x done bytes) (sym e) (ended stop slice all (subst (IsScript bytes) (sym same) is) whole some)
+  pub run_claim : (stop : Option Stop) (status : Status) (setup : Roster) (lines slice : List EventLine) → status ≡ status_of stop → slice ≡ lines → WasRead left bytes → IsScript bytes setup lines → (stop ≡ None → Whole rows rows' f f' s t slice done) → IfSome stop (λ x. Stopped rows rows' f f' s t x slice done) → Claim rows rows' f f' s t left status done bytes
+  run_claim stop status setup lines slice e same all is whole some =
+      subst (λ x. Claim rows rows' f f' s t left x done bytes) (sym e) (ended stop setup slice all (subst (IsScript bytes setup) (sym same) is) whole some)
 
 caused : (stop : Option Stop) (before now : ℕ) → (stop ≡ Some StopWriteFault → Rose before now) → IsRunStatus (status_of stop) before now
 caused None before now h = tt
@@ -42,23 +43,23 @@ no_longer all bytes rest e = omega (arith, ap length e, length-append bytes rest
 
 module _ (rows rows' : Option (List Row)) (f f' : ℕ) (s t : Option (List ℕ)) (all bytes rest : List ℕ) (done : ℕ) (e : all ≡ bytes ++ rest) (R W : Type 0) where
   complete_at : (status : Status) → Claim rows rows' f f' s t (Some rest) status done bytes → (status ≡ ReadFault → R) → (status ≡ WriteFault → W) → IsComplete all R W status
-  complete_at Done c read write lines is within no_read no_write = inl refl
-  complete_at Usage c read write lines is within no_read no_write = absurd c
-  complete_at (ScriptFault line rule) c read write lines is within no_read no_write = absurd (no_fault all lines line rule is (subst (λ b. IsFault b line rule) (all_read all bytes rest e c.0.0) c.1))
-  complete_at TooLong c read write lines is within no_read no_write = absurd (omega (arith, c.0, within, no_longer all bytes rest e))
-  complete_at ReadFault c read write lines is within no_read no_write = absurd (no_read (read refl))
-  complete_at WriteFault c read write lines is within no_read no_write = absurd (no_write (write refl))
-  complete_at NoMemory c read write lines is within no_read no_write = inr refl
+  complete_at Done c read write setup lines is within no_read no_write = inl refl
+  complete_at Usage c read write setup lines is within no_read no_write = absurd c
+  complete_at (ScriptFault line rule) c read write setup lines is within no_read no_write = absurd (no_fault all setup lines line rule is (subst (λ b. IsFault b line rule) (all_read all bytes rest e c.0.0) c.1))
+  complete_at TooLong c read write setup lines is within no_read no_write = absurd (omega (arith, c.0, within, no_longer all bytes rest e))
+  complete_at ReadFault c read write setup lines is within no_read no_write = absurd (no_read (read refl))
+  complete_at WriteFault c read write setup lines is within no_read no_write = absurd (no_write (write refl))
+  complete_at NoMemory c read write setup lines is within no_read no_write = inr refl
 
   fault_at : (status : Status) → Claim rows rows' f f' s t (Some rest) status done bytes → (status ≡ ReadFault → R) → TellsFault all R status
-  fault_at Done c read line rule is within no_read = absurd (no_fault all c.1 line rule (subst (λ b. IsScript b c.1) (all_read all bytes rest e c.0.0) c.2) is)
+  fault_at Done c read line rule is within no_read = absurd (no_fault all c.1 c.2 line rule (subst (λ b. IsScript b c.1 c.2) (all_read all bytes rest e c.0.0) c.3) is)
   fault_at Usage c read line rule is within no_read = absurd c
   fault_at (ScriptFault l r) c read line rule is within no_read =
       let one = fault_is_one all l r line rule (subst (λ b. IsFault b l r) (all_read all bytes rest e c.0.0) c.1) is in
       inl (λ i. ScriptFault (one.0 i) (one.1 i))
   fault_at TooLong c read line rule is within no_read = absurd (omega (arith, c.0, within, no_longer all bytes rest e))
   fault_at ReadFault c read line rule is within no_read = absurd (no_read (read refl))
-  fault_at WriteFault c read line rule is within no_read = absurd (no_fault all c.1 line rule (subst (λ b. IsScript b c.1) (all_read all bytes rest e c.0.0) c.2) is)
+  fault_at WriteFault c read line rule is within no_read = absurd (no_fault all c.1 c.2 line rule (subst (λ b. IsScript b c.1 c.2) (all_read all bytes rest e c.0.0) c.3) is)
   fault_at NoMemory c read line rule is within no_read = inr refl
 
   long_at : (status : Status) → Claim rows rows' f f' s t (Some rest) status done bytes → (status ≡ ReadFault → R) → TellsLength all R status

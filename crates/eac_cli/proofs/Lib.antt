@@ -6,4 +6,5 @@ pub mod MayRun
 pub mod Orders
 pub mod Reading
 pub mod Runs
+pub mod SetupScripts
 pub mod Turning

@@ -18,8 +18,10 @@ use Rattle.eac_cli.specs.declared.event.EventLine.{EventLine}
 use Rattle.eac_cli.specs.declared.line_rule.LineRule.{LineRule}
 use Rattle.eac_cli.specs.declared.line_rule.LineRule.TheVariants.{Grammar, Limit}
 use Rattle.policy_limits.specs.Lines.{one_word, two_words}
+use Rattle.policy_limits.specs.Roster.{Roster}
+use Rattle.policy_limits.specs.SetupLine.{is_setup_line}
 use Rattle.eac_cli.specs.LineGrammar.{day_of, day_said, ask_with, ask_of, ask_said, event_said, event_of}
-use Rattle.eac_cli.specs.Script.{Line, line_of, lines_read, events_of, later_day, IsInPlace, InOrder, IsScript}
+use Rattle.eac_cli.specs.Script.{Line, InSetup, Alone, line_of, lines_read, events_of, later_day, IsInPlace, InOrder, IsScript}
 use Rattle.eac_cli.specs.Steps.{MayRun, MayRunAll}
 use Rattle.eac_cli.proofs.Orders.{in_order}
 
@@ -71,13 +73,14 @@ line_within text event = through (some_or (words text) Grammar) event_said event
 
 -- ---- all lines
 
-within_step : (n : ℕ) (r : Result Event LineRule) (text : List ℕ) (rest : List Line) → event_of text ≡ r → AllWithin (events_of rest) → AllWithin (events_of ((n, r) ∷ rest))
-within_step n (Ok event) text rest is all = (line_within text event is, all)
-within_step n (Err rule) text rest is all = all
+within_step : (setup : Bool) (n : ℕ) (r : Result Event LineRule) (text : List ℕ) (rest : List Line) → event_of text ≡ r → AllWithin (events_of rest) → AllWithin (events_of ((n, cond setup (InSetup text) (Alone r)) ∷ rest))
+within_step true n r text rest is all = all
+within_step false n (Ok event) text rest is all = (line_within text event is, all)
+within_step false n (Err rule) text rest is all = all
 
 all_within : (texts : List (ℕ × List ℕ)) → AllWithin (events_of (map line_of texts))
 all_within [] = tt
-all_within (t ∷ texts) = within_step t.0 (event_of t.1) t.1 (map line_of texts) refl (all_within texts)
+all_within (t ∷ texts) = within_step (is_setup_line t.1) t.0 (event_of t.1) t.1 (map line_of texts) refl (all_within texts)
 
 allowed : (today : Option ℕ) (event : Event) → IsInPlace today event → IsWithin event → MayRun today event
 allowed today (Day day) h w = tt
@@ -89,5 +92,5 @@ all_allowed today [] o w = tt
 all_allowed today (line ∷ lines) o w = (allowed today line.event o.0 w.0, all_allowed (later_day today line.event) lines o.1 w.1)
 
 -- the events of a script may be run in their order, from a world without a day
-pub script_may_run : (bytes : List ℕ) (lines slice : List EventLine) → slice ≡ lines → IsScript bytes lines → MayRunAll None slice
-script_may_run bytes lines slice same is = subst (MayRunAll None) (sym same) (all_allowed None lines (in_order bytes lines is) (subst AllWithin (sym is.events_are) (all_within (numbered_lines bytes))))
+pub script_may_run : (bytes : List ℕ) (setup : Roster) (lines slice : List EventLine) → slice ≡ lines → IsScript bytes setup lines → MayRunAll None slice
+script_may_run bytes setup lines slice same is = subst (MayRunAll None) (sym same) (all_allowed None lines (in_order bytes setup lines is) (subst AllWithin (sym is.events_are) (all_within (numbered_lines bytes))))

@@ -14,7 +14,7 @@ use Rattle.issue_core.specs.declared.rule.Rule.{Rule}
 use Rattle.issue_core.specs.declared.serving.RegisterAnswer.{RegisterAnswer}
 use Rattle.issue_core.specs.declared.serving.RegisterAnswer.TheVariants.{Issued as AnswerIssued, Kept as AnswerKept, Refused as AnswerRefused}
 use Rattle.issue_core.specs.declared.serving.IssueFault.{IssueFault}
-use Rattle.issue_core.specs.declared.serving.IssueFault.TheVariants.{KeeperFault, NoMemory as FaultNoMemory}
+use Rattle.issue_core.specs.declared.serving.IssueFault.TheVariants.{KeeperFault, ProviderFault, NoKey, NoMemory as FaultNoMemory}
 use Rattle.issue_core.specs.Ledger.{Outcome, Issued, Kept, Refused, Faulted, NoMemory}
 use Rattle.issue_core.specs.Story.{Decides}
 use Rattle.issue_core.specs.Register.{Asked, Fault, register, unsigned, delivery_of, Serves, entries_of, rows_left, outcome_of}
@@ -102,6 +102,8 @@ caused before now (Ok (AnswerIssued day)) h = tt
 caused before now (Ok (AnswerKept day)) h = tt
 caused before now (Ok (AnswerRefused rule)) h = tt
 caused before now (Err KeeperFault) h = h refl
+caused before now (Err ProviderFault) h = tt
+caused before now (Err (NoKey reference)) h = tt
 caused before now (Err FaultNoMemory) h = tt
 
 ended_text : (reference : List ℕ) (outcome : Outcome (List ℕ) Rule Fault) → IsEnded (told_as reference outcome) → answer_text (told_as reference outcome) ≡ outcome_text reference outcome

@@ -1,4 +1,5 @@
--- The event that a line of a script says, or the rule that the line breaks by itself (this project's own).
+-- The event that a line of a script says, or the rule that the line breaks by itself (this project's own). Setup lines have
+-- their grammar where setups have.
 use Rattle.std.specs.Prelude.{ℕ, List, [], ◌∷◌, length, codes, nat_le, Option, Some, None, Result, Ok, Err, if◌then◌else◌}
 use Rattle.std.specs.Result.{result_map_both}
 use Rattle.std.specs.Str.{bytes_eq}
@@ -10,7 +11,7 @@ use Rattle.policy_limits.specs.Lines.{one_word, two_words}
 use Rattle.eac_cli.specs.declared.event.Event.{Event}
 use Rattle.eac_cli.specs.declared.event.Event.TheVariants.{Day, Ask}
 use Rattle.eac_cli.specs.declared.line_rule.LineRule.{LineRule}
-use Rattle.eac_cli.specs.declared.line_rule.LineRule.TheVariants.{Grammar, Limit, TooEarly, DayFalls, TooMany}
+use Rattle.eac_cli.specs.declared.line_rule.LineRule.TheVariants.{Grammar, Limit, Twice, TooLate, TooEarly, DayFalls, TooMany}
 use Rattle.eac_cli.specs.declared.line_rule.LineRefusal.{LineRefusal}
 use Rattle.eac_cli.specs.declared.line_rule.LineRefusal.TheVariants.{Rule, NoMemory}
 
@@ -19,6 +20,8 @@ use Rattle.eac_cli.specs.declared.line_rule.LineRefusal.TheVariants.{Rule, NoMem
 abbrev pub rule_number : LineRule → ℕ
 rule_number Grammar = 1
 rule_number Limit = 2
+rule_number Twice = 3
+rule_number TooLate = 4
 rule_number TooEarly = 4
 rule_number DayFalls = 5
 rule_number TooMany = 7

@@ -1,13 +1,19 @@
 -- Scripts, and the first fault of what is none (this project's own).
 use Rattle.std.specs.Prelude.{◌≡◌, ◌≤◌, ℕ, List, [], ◌∷◌, ◌++◌, map, length, nat_lt, Option, Some, None, Result, Ok, Err, if◌then◌else◌}
 use Rattle.std.specs.Option.{option_map, option_or}
+use Rattle.eac_base.specs.Answers.{◌>>=◌}
 use Rattle.eac_base.specs.Text.{numbered_lines}
+use Rattle.policy_limits.specs.Roster.{Roster, roster_of}
+use Rattle.policy_limits.specs.SetupLine.{is_setup_line}
+use Rattle.policy_limits.specs.SetupText.{with_line, with_lines}
+use Rattle.policy_limits.specs.declared.setup_text.SetupRefusal.{SetupRefusal}
+use Rattle.policy_limits.specs.declared.setup_text.SetupRefusal.TheVariants.{Form, Limit as SetupLimit, Twice as SetupTwice, NoMemory as SetupNoMemory}
 use Rattle.eac_cli.specs.LineGrammar.{event_of, rule_number}
 use Rattle.eac_cli.specs.declared.event.Event.{Event}
 use Rattle.eac_cli.specs.declared.event.Event.TheVariants.{Day, Ask}
 use Rattle.eac_cli.specs.declared.event.EventLine.{EventLine}
 use Rattle.eac_cli.specs.declared.line_rule.LineRule.{LineRule}
-use Rattle.eac_cli.specs.declared.line_rule.LineRule.TheVariants.{TooEarly, DayFalls, TooMany}
+use Rattle.eac_cli.specs.declared.line_rule.LineRule.TheVariants.{Grammar, Limit, Twice, TooLate, TooEarly, DayFalls, TooMany}
 use Rattle.eac_cli.specs.declared.line_rule.LineRefusal.{LineRefusal}
 use Rattle.eac_cli.specs.declared.line_rule.LineRefusal.TheVariants.{Rule, NoMemory}
 use Rattle.eac_cli.specs.declared.script.ScriptRefusal.{ScriptRefusal}
@@ -15,23 +21,43 @@ use Rattle.eac_cli.specs.declared.script.ScriptRefusal.TheVariants.{Fault, NoMem
 
 -- ---- lines
 
--- A line that isn't passed over, read by itself: its number, and its event or the rule that it breaks.
+-- What a line says that isn't passed over. A setup line names parties of the lines before it, so its text stays. Any other
+-- line is read by itself: to its event, or to the rule that it breaks.
+pub data Said : Type 0 where
+  InSetup : (text : List ℕ) → Said
+  Alone : (read : Result Event LineRule) → Said
+
+-- A line with its number.
 abbrev pub Line : Type 0
-Line = ℕ × Result Event LineRule
+Line = ℕ × Said
+
+abbrev pub said_by : List ℕ → Said
+said_by text = if is_setup_line text then InSetup text else Alone (event_of text)
 
 abbrev pub line_of : ℕ × List ℕ → Line
-line_of line = (line.0, event_of line.1)
+line_of line = (line.0, said_by line.1)
 
 abbrev pub lines_read : List ℕ → List Line
 lines_read bytes = map line_of (numbered_lines bytes)
 
--- The events of lines.
+-- ---- what lines say together
+
+-- The setup lines.
+abbrev pub setup_lines : List Line → List (ℕ × List ℕ)
+setup_lines [] = []
+setup_lines ((n, InSetup text) ∷ lines) = (n, text) ∷ setup_lines lines
+setup_lines ((n, Alone read) ∷ lines) = setup_lines lines
+
+-- The setup that the setup lines are as a text of their own, or the first rule that one of them breaks there.
+abbrev pub setup_of : List Line → Result Roster SetupRefusal
+setup_of lines = with_lines (roster_of [] []) (setup_lines lines)
+
+-- The events.
 abbrev pub events_of : List Line → List EventLine
 events_of [] = []
-events_of ((n, Ok event) ∷ lines) = record { line = n; event = event } ∷ events_of lines
-events_of ((n, Err rule) ∷ lines) = events_of lines
-
--- ---- days
+events_of ((n, InSetup text) ∷ lines) = events_of lines
+events_of ((n, Alone (Ok event)) ∷ lines) = record { line = n; event = event } ∷ events_of lines
+events_of ((n, Alone (Err rule)) ∷ lines) = events_of lines
 
 -- The day in force after an event.
 abbrev pub later_day : Option ℕ → Event → Option ℕ
@@ -41,8 +67,32 @@ later_day today (Ask reference bytes) = today
 -- The day in force after all of these lines.
 abbrev pub day_after : Option ℕ → List Line → Option ℕ
 day_after today [] = today
-day_after today ((n, Ok event) ∷ lines) = day_after (later_day today event) lines
-day_after today ((n, Err rule) ∷ lines) = day_after today lines
+day_after today ((n, InSetup text) ∷ lines) = day_after today lines
+day_after today ((n, Alone (Ok event)) ∷ lines) = day_after (later_day today event) lines
+day_after today ((n, Alone (Err rule)) ∷ lines) = day_after today lines
+
+-- ---- rules of setup lines
+
+-- A rule of setups, seen as a rule of scripts. Want of memory is none.
+abbrev pub setup_rule : SetupRefusal → Option LineRule
+setup_rule (Form line) = Some Grammar
+setup_rule (SetupLimit line) = Some Limit
+setup_rule (SetupTwice line) = Some Twice
+setup_rule SetupNoMemory = None
+
+abbrev pub rule_in_setup : Result Roster SetupRefusal → Option LineRule
+rule_in_setup (Ok setup) = None
+rule_in_setup (Err refusal) = setup_rule refusal
+
+-- A setup line stands before all events.
+abbrev pub late_rule : ℕ → Option LineRule
+late_rule events = if nat_lt 0 events then Some TooLate else None
+
+-- The least rule that a setup line breaks behind this setup and so many events.
+abbrev pub setup_rule_behind : Result Roster SetupRefusal → ℕ → ℕ × List ℕ → Option LineRule
+setup_rule_behind setup events line = option_or (rule_in_setup (setup >>= λ r. with_line r line)) (late_rule events)
+
+-- ---- rules of events
 
 -- The rule of order that an event breaks on this day: a day is there before any other event, and no day falls.
 abbrev pub order_rule : Option ℕ → Event → Option LineRule
@@ -51,43 +101,51 @@ order_rule None (Ask reference bytes) = Some TooEarly
 order_rule (Some today) (Day day) = if nat_lt day today then Some DayFalls else None
 order_rule (Some today) (Ask reference bytes) = None
 
--- ---- number
-
 -- A script has 20,000 events at most.
 abbrev pub count_rule : ℕ → Option LineRule
 count_rule events = if nat_lt events 20000 then None else Some TooMany
-
--- ---- rules
 
 -- The least rule that an event breaks on this day and behind so many events.
 abbrev pub rule_behind : Option ℕ → ℕ → Event → Option LineRule
 rule_behind today events event = option_or (order_rule today event) (count_rule events)
 
+-- The least rule that a line breaks that is no setup line.
+abbrev pub event_rule_behind : Option ℕ → ℕ → Result Event LineRule → Option LineRule
+event_rule_behind today events (Ok event) = rule_behind today events event
+event_rule_behind today events (Err rule) = Some rule
+
+-- ---- rules of lines
+
+-- The least rule that a line breaks behind this setup, on this day and behind so many events.
+abbrev pub broken_behind : Result Roster SetupRefusal → Option ℕ → ℕ → Line → Option LineRule
+broken_behind setup today events (n, InSetup text) = setup_rule_behind setup events (n, text)
+broken_behind setup today events (n, Alone read) = event_rule_behind today events read
+
 -- The least rule that a line breaks after the earlier lines.
-abbrev pub broken : List Line → Result Event LineRule → Option LineRule
-broken earlier (Err rule) = Some rule
-broken earlier (Ok event) = rule_behind (day_after None earlier) (length (events_of earlier)) event
+abbrev pub broken : List Line → Line → Option LineRule
+broken earlier line = broken_behind (setup_of earlier) (day_after None earlier) (length (events_of earlier)) line
 
 -- No line breaks a rule, each after the earlier lines and the lines before it.
 abbrev pub Unbroken : List Line → List Line → Type 0
 Unbroken earlier [] = Unit {0}
-Unbroken earlier (line ∷ lines) = (broken earlier line.1 ≡ None) × Unbroken (earlier ++ line ∷ []) lines
+Unbroken earlier (line ∷ lines) = (broken earlier line ≡ None) × Unbroken (earlier ++ line ∷ []) lines
 
 -- ---- scripts and faults
 
--- The bytes are a script with these events.
-pub record IsScript (bytes : List ℕ) (events : List EventLine) : Type 0 where
+-- The bytes are a script with this setup and these events.
+pub record IsScript (bytes : List ℕ) (setup : Roster) (events : List EventLine) : Type 0 where
   pub fine : Unbroken [] (lines_read bytes)
+  pub setup_is : setup_of (lines_read bytes) ≡ Ok setup
   pub events_are : events ≡ events_of (lines_read bytes)
 
 -- The first line that breaks a rule is the one of this number, and this is the number of the least rule that it breaks.
 pub record IsFault (bytes : List ℕ) (line rule : ℕ) : Type 0 where
   pub front : List Line
-  pub read : Result Event LineRule
+  pub said : Said
   pub back : List Line
-  pub cut : lines_read bytes ≡ front ++ (line, read) ∷ back
+  pub cut : lines_read bytes ≡ front ++ (line, said) ∷ back
   pub fine : Unbroken [] front
-  pub breaks : option_map rule_number (broken front read) ≡ Some rule
+  pub breaks : option_map rule_number (broken front (line, said)) ≡ Some rule
 
 -- A refusal is true: want of memory says nothing of the bytes.
 abbrev pub FaultOf : List ℕ → ScriptRefusal → Type 0
@@ -97,6 +155,20 @@ FaultOf bytes ScriptNoMemory = Unit {0}
 abbrev pub refused_at : ℕ → LineRefusal → ScriptRefusal
 refused_at line (Rule rule) = Fault line (rule_number rule)
 refused_at line NoMemory = ScriptNoMemory
+
+-- ---- one line as the program takes it
+
+-- The line breaks no rule, and this is the setup, the day and the events behind it.
+pub record Takes (line : Line) (setup setup' : Roster) (today today' : Option ℕ) (events events' : List EventLine) : Type 0 where
+  pub fine : broken_behind (Ok setup) today (length events) line ≡ None
+  pub setup_is : with_lines setup (setup_lines (line ∷ [])) ≡ Ok setup'
+  pub day_is : today' ≡ day_after today (line ∷ [])
+  pub events_are : events' ≡ events ++ events_of (line ∷ [])
+
+-- A line that is refused breaks the rule. Want of memory says nothing of it.
+abbrev pub Breaks : LineRefusal → Option LineRule → Type 0
+Breaks (Rule rule) broken = broken ≡ Some rule
+Breaks NoMemory broken = Unit {0}
 
 -- ---- what every script keeps
 

@@ -8,6 +8,7 @@ use Rattle.keeper.specs.declared.rows.Row.{Row}
 use Rattle.issue_core.specs.declared.rule.Rule.{Rule}
 use Rattle.issue_core.specs.Ledger.{Delivery, entries}
 use Rattle.issue_core.specs.Register.{Asked, Fault, Deliveries, register, RegisterStory, entries_of, rows_of_ledger}
+use Rattle.policy_limits.specs.Roster.{Roster}
 use Rattle.eac_cli.specs.declared.event.Event.{Event}
 use Rattle.eac_cli.specs.declared.event.Event.TheVariants.{Day, Ask}
 use Rattle.eac_cli.specs.declared.event.EventLine.{EventLine}
@@ -110,13 +111,13 @@ module _ (rows rows' : Option (List Row)) (first last : ℕ) (old new : Option (
 
   -- what stands for each status, where the source has this left and these bytes were read
   abbrev pub Claim : Option (List ℕ) → Status → ℕ → List ℕ → Type 0
-  Claim left Done done bytes = WasRead left bytes × (lines : List EventLine) × IsScript bytes lines × Whole lines done
+  Claim left Done done bytes = WasRead left bytes × (setup : Roster) × (lines : List EventLine) × IsScript bytes setup lines × Whole lines done
   Claim left Usage done bytes = ⊥
   Claim left (ScriptFault line rule) done bytes = WasRead left bytes × IsFault bytes line rule × Nothing done
   Claim left TooLong done bytes = (most_input < length bytes) × Nothing done
   Claim left ReadFault done bytes = Nothing done
-  Claim left WriteFault done bytes = WasRead left bytes × (lines : List EventLine) × IsScript bytes lines × Stopped StopWriteFault lines done
-  Claim left NoMemory done bytes = Nothing done ⊎ (WasRead left bytes × (lines : List EventLine) × IsScript bytes lines × Stopped StopNoMemory lines done)
+  Claim left WriteFault done bytes = WasRead left bytes × (setup : Roster) × (lines : List EventLine) × IsScript bytes setup lines × Stopped StopWriteFault lines done
+  Claim left NoMemory done bytes = Nothing done ⊎ (WasRead left bytes × (setup : Roster) × (lines : List EventLine) × IsScript bytes setup lines × Stopped StopNoMemory lines done)
 
 -- ---- `show`
 
@@ -139,7 +140,7 @@ IsShown bytes read written status = length bytes ≤ most_input → ¬ read → 
 
 -- Where no read and no write failed, a script within the limit is run to its end, but for want of memory.
 abbrev pub IsComplete : List ℕ → Type 0 → Type 0 → Status → Type 0
-IsComplete bytes read written status = (lines : List EventLine) → IsScript bytes lines → length bytes ≤ most_input → ¬ read → ¬ written → (status ≡ Done) ⊎ (status ≡ NoMemory)
+IsComplete bytes read written status = (setup : Roster) (lines : List EventLine) → IsScript bytes setup lines → length bytes ≤ most_input → ¬ read → ¬ written → (status ≡ Done) ⊎ (status ≡ NoMemory)
 
 -- Where no read failed, a fault of the script within the limit is told, but for want of memory.
 abbrev pub TellsFault : List ℕ → Type 0 → Status → Type 0

@@ -1,21 +1,14 @@
 // The texts of the journal.
 ghost use Rattle.std.specs.Prelude.{◌≡◌, ℕ, List, [], ◌∷◌, ◌++◌, IfOk, IfSome, OnOk};
-ghost use Rattle.std.specs.Fmt.{decimal};
 ghost use Rattle.issue_core.specs.Register.{outcome_of};
 ghost use Rattle.eac_cli.specs.Journal.{outcome_text, numbered_line};
 ghost use Rattle.eac_cli.specs.Turn.{told_as, IsEnded};
 
+use crate::decimal::push_number;
 use eac_base::{NoMemory, Octets};
 use holder_reference::Reference;
 use issue_core::{IssueFault, RegisterAnswer};
 use std::alloc::Global;
-
-fn push_number(alloc: Global, out: &mut Octets, number: u64) -> Result<(), NoMemory>
-    ensures { OnOk result (out.new ≡ out.old ++ decimal number) }
-{
-    let text = number.to_string(alloc)?;
-    out.push_all(text.as_bytes())
-}
 
 // The word, the reference and the day on which it was given.
 fn push_given(
@@ -48,6 +41,8 @@ fn push_outcome(
             push_number(alloc, out, rule.number() as u64)
         }
         Err(IssueFault::KeeperFault) => out.push_all(b"fault keeper"),
+        Err(IssueFault::ProviderFault) => Ok(()),
+        Err(IssueFault::NoKey(_)) => Ok(()),
         Err(IssueFault::NoMemory) => Ok(()),
     }
 }
@@ -61,6 +56,13 @@ pub fn outcome_text(
     ensures { IfSome result (λ text. (text ≡ outcome_text reference.now (outcome_of answer.now)) × IsEnded (told_as reference.now (outcome_of answer.now))) }
 {
     if let Err(IssueFault::NoMemory) = answer {
+        return None;
+    }
+    // these two don't come from the register
+    if let Err(IssueFault::ProviderFault) = answer {
+        return None;
+    }
+    if let Err(IssueFault::NoKey(_)) = answer {
         return None;
     }
     let mut text = Octets::new(alloc);

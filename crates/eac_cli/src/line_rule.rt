@@ -5,10 +5,14 @@ ghost use Rattle.eac_cli.specs.LineGrammar.{rule_number};
 /// The rule that a line of a script breaks. A line is tested by them in this order, and named by the first one.
 #[derive(Clone, Copy, Debug, PartialEq, Eq)]
 pub enum LineRule {
-    /// The line isn't in the grammar.
+    /// The line isn't in the grammar, or a setup line names a party that isn't in an earlier line or can't have that part.
     Grammar,
-    /// HEX says more than 4,096 bytes.
+    /// HEX says more than 4,096 bytes; days or a live limit are out of their limits, or it is the thousand-and-first party.
     Limit,
+    /// The holder is a party already, or registered at the desk already.
+    Twice,
+    /// A setup line comes after an event line.
+    TooLate,
     /// An event other than `day` comes before the first `day`.
     TooEarly,
     /// The day is before the day in force.
@@ -25,6 +29,8 @@ impl LineRule {
         match self {
             LineRule::Grammar => 1,
             LineRule::Limit => 2,
+            LineRule::Twice => 3,
+            LineRule::TooLate => 4,
             LineRule::TooEarly => 4,
             LineRule::DayFalls => 5,
             LineRule::TooMany => 7,

@@ -4,6 +4,7 @@
 //! the number of its status. All that the program promises stands on that call.
 #![tactic(auto)]
 
+mod decimal;
 mod event;
 mod hex;
 mod journal;

@@ -1,20 +1,24 @@
 // A whole script.
-ghost use Rattle.std.specs.Prelude.{◌≡◌, IfOk, IfErr};
-ghost use Rattle.eac_cli.specs.Script.{IsScript, FaultOf, order_rule, count_rule, rule_behind, later_day, refused_at};
+ghost use Rattle.std.specs.Prelude.{◌≡◌, [], ◌∷◌, ◌++◌, length, None, Ok, IfOk, IfErr, OnOk};
+ghost use Rattle.policy_limits.specs.SetupText.{with_line};
+ghost use Rattle.eac_cli.specs.LineGrammar.{event_of, rule_of};
+ghost use Rattle.eac_cli.specs.Script.{IsScript, FaultOf, Alone, line_of, events_of, later_day, day_after, setup_rule, late_rule, setup_rule_behind, order_rule, count_rule, rule_behind, event_rule_behind, broken_behind, refused_at, Takes, Breaks};
 
 use crate::event::{Event, EventLine, EventLines};
 use crate::line_grammar::read_event;
 use crate::line_rule::{LineRefusal, LineRule};
 use cv_dates::Day;
 use policy_limits::lines::next_numbered;
+use policy_limits::{Setup, SetupRefusal, is_setup_line, take_line};
 use std::alloc::Global;
 
 /// The most event lines of a script.
 const MOST_EVENTS: usize = 20_000;
 
-/// A script: its events, each with its line.
+/// A script: its setup, and its events, each with its line.
 #[derive(Debug, Drop)]
 pub struct Script {
+    pub setup: Setup,
     pub events: EventLines,
 }
 
@@ -87,29 +91,93 @@ fn refused_at(line: u64, refusal: LineRefusal) -> ScriptRefusal
     }
 }
 
+/// The refusal of a script's line for that of a setup's.
+fn setup_refused(refusal: SetupRefusal) -> LineRefusal
+    ensures { rule_of result ≡ setup_rule refusal }
+{
+    match refusal {
+        SetupRefusal::Form { .. } => LineRefusal::Rule(LineRule::Grammar),
+        SetupRefusal::Limit { .. } => LineRefusal::Rule(LineRule::Limit),
+        SetupRefusal::Twice { .. } => LineRefusal::Rule(LineRule::Twice),
+        SetupRefusal::NoMemory => LineRefusal::NoMemory,
+    }
+}
+
+/// Takes a setup line behind so many events. After a refusal the setup is one that no script has.
+fn take_setup(setup: &mut Setup, events: usize, line: u64, text: &[u8]) -> Result<(), LineRefusal>
+    ensures taken { OnOk result (with_line setup.old (line, text.now) ≡ Ok setup.new) }
+    ensures in_place { OnOk result (late_rule events ≡ None) }
+    ensures refused { IfErr result (λ refusal. Breaks refusal (setup_rule_behind (Ok setup.old) events (line, text.now))) }
+{
+    if let Err(refusal) = take_line(setup, line, text) {
+        return Err(setup_refused(refusal));
+    }
+    if 0 < events {
+        return Err(LineRefusal::Rule(LineRule::TooLate));
+    }
+    Ok(())
+}
+
+/// Takes a line that is no setup line.
+fn take_event(
+    alloc: Global,
+    events: &mut EventLines,
+    today: &mut Option<Day>,
+    line: u64,
+    text: &[u8],
+) -> Result<(), LineRefusal>
+    ensures fine { OnOk result (event_rule_behind today.old (length events.old) (event_of text.now) ≡ None) }
+    ensures day { OnOk result (today.new ≡ day_after today.old ((line, Alone (event_of text.now)) ∷ [])) }
+    ensures events { OnOk result (events.new ≡ events.old ++ events_of ((line, Alone (event_of text.now)) ∷ [])) }
+    ensures refused { IfErr result (λ refusal. Breaks refusal (event_rule_behind today.old (length events.old) (event_of text.now))) }
+{
+    let event = read_event(alloc, text)?;
+    if let Some(rule) = rule_behind(today, events.len(), &event) {
+        return Err(LineRefusal::Rule(rule));
+    }
+    keep_day(today, &event);
+    if events.push(EventLine { line, event }).is_err() {
+        return Err(LineRefusal::NoMemory);
+    }
+    Ok(())
+}
+
+/// Takes the line of this number, or names the first rule that it breaks.
+fn take(
+    alloc: Global,
+    script: &mut Script,
+    today: &mut Option<Day>,
+    line: u64,
+    text: &[u8],
+) -> Result<(), LineRefusal>
+    ensures taken { OnOk result (Takes (line_of (line, text.now)) script.old.setup script.new.setup today.old today.new script.old.events script.new.events) }
+    ensures refused { IfErr result (λ refusal. Breaks refusal (broken_behind (Ok script.old.setup) today.old (length script.old.events) (line_of (line, text.now)))) }
+{
+    if is_setup_line(text) {
+        take_setup(&mut script.setup, script.events.len(), line, text)
+    } else {
+        take_event(alloc, &mut script.events, today, line, text)
+    }
+}
+
 /// Reads a whole script. A fault names the first line that breaks a rule and the least rule that it breaks.
 pub fn read_script(alloc: Global, bytes: &[u8]) -> Result<Script, ScriptRefusal>
-    ensures script { IfOk result (λ script. IsScript bytes.now script.events) }
+    ensures script { IfOk result (λ script. IsScript bytes.now script.setup script.events) }
     ensures fault { IfErr result (λ refusal. FaultOf bytes.now refusal) }
 {
-    let mut events = EventLines::new(alloc);
+    let mut script = Script {
+        setup: Setup::new(alloc),
+        events: EventLines::new(alloc),
+    };
     let mut today: Option<Day> = None;
     let mut last: u64 = 0;
     let mut rest = bytes;
     while let Some((line, text, after)) = next_numbered(rest, last) {
-        let event = match read_event(alloc, text) {
-            Ok(event) => event,
-            Err(refusal) => return Err(refused_at(line, refusal)),
-        };
-        if let Some(rule) = rule_behind(&today, events.len(), &event) {
-            return Err(refused_at(line, LineRefusal::Rule(rule)));
-        }
-        keep_day(&mut today, &event);
-        if events.push(EventLine { line, event }).is_err() {
-            return Err(ScriptRefusal::NoMemory);
+        if let Err(refusal) = take(alloc, &mut script, &mut today, line, text) {
+            return Err(refused_at(line, refusal));
         }
         last = line;
         rest = after;
     }
-    Ok(Script { events })
+    Ok(script)
 }

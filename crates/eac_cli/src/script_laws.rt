@@ -1,5 +1,5 @@
 // What holds of every script and of every fault.
-ghost use Rattle.eac_cli.specs.ScriptLaws.{ScriptsAreFine, FaultIsOne, EventsAreOne, ScriptsAreInOrder, ScriptsAreShort};
+ghost use Rattle.eac_cli.specs.ScriptLaws.{ScriptsAreFine, FaultIsOne, EventsAreOne, SetupIsOne, SetupsAreScripts, SetupsComeFirst, ScriptsAreInOrder, ScriptsAreShort};
 
 /// Bytes that are a script have no fault.
 pub fn scripts_have_no_fault()
@@ -14,6 +14,21 @@ pub fn a_fault_is_one()
 /// Bytes are a script of one list of events at most.
 pub fn events_are_one()
     ensures { EventsAreOne }
+{}
+
+/// Bytes are a script of one setup at most.
+pub fn a_setup_is_one()
+    ensures { SetupIsOne }
+{}
+
+/// A text is a setup exactly where it is a script without events, of the same setup.
+pub fn setups_are_scripts()
+    ensures { SetupsAreScripts }
+{}
+
+/// In every script all setup lines stand before all event lines.
+pub fn setups_come_first()
+    ensures { SetupsComeFirst }
 {}
 
 /// In every script a day stands before the first other event, and no day is before the day in force.

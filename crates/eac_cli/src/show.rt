@@ -5,19 +5,13 @@ ghost use Rattle.cv_dates.specs.Calendar.{day_text};
 ghost use Rattle.cvc_grammar.specs.Views.{seen_cert};
 ghost use Rattle.eac_cli.specs.Show.{field_line, fields_text, role_word, algorithm_text, size_or_none, names_of, dates_of, key_of, fields_of, place_text, refused_text, show_text};
 
+use crate::decimal::push_number;
 use chat_rights::{Role, rights_text};
 use cv_dates::{Day, day_text};
 use cvc_grammar::{CertView, CvcRefusal, view_cert};
 use eac_base::{NoMemory, Octets};
 use signature_provider::Algorithm;
 use std::alloc::Global;
-
-fn push_number(alloc: Global, out: &mut Octets, number: u64) -> Result<(), NoMemory>
-    ensures { OnOk result (out.new ≡ out.old ++ decimal number) }
-{
-    let text = number.to_string(alloc)?;
-    out.push_all(text.as_bytes())
-}
 
 fn push_field(out: &mut Octets, name: &[u8], value: &[u8]) -> Result<(), NoMemory>
     ensures { OnOk result (out.new ≡ out.old ++ field_line (name.now, value.now)) }

@@ -85,7 +85,7 @@ fn run(alloc: Global, script: &[u8]) -> Result<(Report, Octets), NoMemory> {
 #[test]
 fn scripts_have_these_journals(rt: HostRuntime) -> Result<(), Fail> {
     let alloc = rt.alloc();
-    let table: [(&[u8], u64, &[u8]); 7] = [
+    let table: [(&[u8], u64, &[u8]); 9] = [
         (FIRST, 2, b"2: issued DEDVBUND00001 240101\n"),
         (
             b"day 240101\nask DEDVBUND00001 0102\nday 240102\nask DEDVBUND00001 0102\n",
@@ -105,6 +105,13 @@ fn scripts_have_these_journals(rt: HostRuntime) -> Result<(), Fail> {
             b"4: issued FRDVXYZ99999 240229\n",
         ),
         (b"day 240101\nday 240101\n", 2, b""),
+        // a setup changes nothing but the numbers of lines
+        (
+            b"cvca DECVCA ec 03 1096\ndv DEDVBUND\nregister DECVCA DEDVBUND domestic 03 90 3 bare\nday 240101\nask DEDVBUND00001 0102\n",
+            2,
+            b"5: issued DEDVBUND00001 240101\n",
+        ),
+        (b"dv DEDVBUND\n", 0, b""),
     ];
     for (script, done, journal) in table {
         let (report, written) = run(alloc, script)?;
@@ -139,6 +146,105 @@ fn the_first_fault_is_told_with_its_least_rule(rt: HostRuntime) -> Result<(), Fa
         let (report, written) = run(alloc, script)?;
         assert_eq!(rt; report.status, Status::ScriptFault { line, rule });
         assert_eq!(rt; report.done, 0);
+        assert!(rt; written.as_slice().is_empty());
+    }
+    Ok(())
+}
+
+// An authority, a verifier with a registration there, and an inspection system: five lines, with a comment.
+const FIVE: &[u8] =
+    b"cvca DECVCA ec 03 1096\n# parties\ndv DEDVBUND\nterminal DEIS00001\nregister DECVCA DEDVBUND domestic 03 90 3 bare\n";
+
+// What stands behind those five lines, the first line that breaks a rule, and the least rule that it breaks.
+const BEHIND_FIVE: [(&[u8], u64, u8); 46] = [
+    // 1: no setup line in the grammar
+    (b"DV FRDV1", 6, 1),
+    (b"dv  FRDV1", 6, 1),
+    (b"dv FRDV1 ", 6, 1),
+    (b"dv", 6, 1),
+    (b"dv FRDV1 FRDV2", 6, 1),
+    (b"dv FR", 6, 1),
+    (b"terminal frIS1", 6, 1),
+    (b"cvca FRCVCA ec 03", 6, 1),
+    (b"cvca FRCVCA dh 03 1096", 6, 1),
+    (b"cvca FRCVCA ec 40 1096", 6, 1),
+    (b"cvca FRCVCA ec 03 0366", 6, 1),
+    // 1: a party that no earlier line names, or that can't have the part
+    (
+        b"register FRCVCA DEDVBUND foreign 03 90 3 bare\ncvca FRCVCA ec 03 1096",
+        6,
+        1,
+    ),
+    (b"register DECVCA FRDV1 foreign 03 90 3 bare", 6, 1),
+    (b"register DEIS00001 DEDVBUND terminal 03 30 3 bare", 6, 1),
+    (b"register DECVCA DEIS00001 domestic 03 90 3 bare", 6, 1),
+    (b"register DEDVBUND DEIS00001 domestic 03 30 3 bare", 6, 1),
+    (
+        b"register DEDVBUND DEIS00001 terminal 03 30 3 home:DECVCA",
+        6,
+        1,
+    ),
+    (
+        b"register DECVCA DEDVBUND foreign 03 90 3 home:DEDVBUND",
+        6,
+        1,
+    ),
+    (
+        b"register DEDVBUND DEIS00001 terminal 03 30 3 bare barred",
+        6,
+        1,
+    ),
+    // 1: no event line in the grammar
+    (b"found DECVCA", 6, 1),
+    (b"day 230229", 6, 1),
+    (b"day 240101\nask DEDVBUND0000a 01", 7, 1),
+    // 2: a setup line beyond a limit
+    (b"cvca FRCVCA ec 03 182", 6, 2),
+    (b"cvca FRCVCA rsa 3F 1097", 6, 2),
+    (b"register DEDVBUND DEIS00001 terminal 03 0 3 bare", 6, 2),
+    (b"register DEDVBUND DEIS00001 terminal 03 32 3 bare", 6, 2),
+    (b"register DEDVBUND DEIS00001 terminal 03 30 0 bare", 6, 2),
+    (b"register DEDVBUND DEIS00001 terminal 03 30 101 bare", 6, 2),
+    // 3: said twice
+    (b"dv DEDVBUND", 6, 3),
+    (b"terminal DEDVBUND", 6, 3),
+    (b"cvca DECVCA rsa 00 183", 6, 3),
+    (
+        b"register DECVCA DEDVBUND foreign 00 14 1 bare suspended",
+        6,
+        3,
+    ),
+    // 4: a setup line behind an event, an event before the first day
+    (b"day 240101\ndv FRDV1", 7, 4),
+    (b"day 240101\nterminal FRIS1", 7, 4),
+    (b"day 240101\ncvca FRCVCA ec 03 1096", 7, 4),
+    (
+        b"day 240101\nask DEDVBUND00001 0102\nregister DEDVBUND DEIS00001 terminal 03 30 3 bare",
+        8,
+        4,
+    ),
+    (b"ask DEDVBUND00001 0102\nday 240101", 6, 4),
+    // the least of two rules
+    (b"cvca DECVCA ec 40 1097", 6, 1),
+    (b"cvca DECVCA ec 03 1097", 6, 2),
+    (b"day 240101\ndv FR", 7, 1),
+    (b"day 240101\ncvca FRCVCA ec 03 1097", 7, 2),
+    (b"day 240101\ndv DEDVBUND", 7, 3),
+    // the first of two lines
+    (b"day 240101\ndv FRDV1\ndv FR", 7, 4),
+    (b"dv DEDVBUND\ndv FR", 6, 3),
+    (b"dv FRDV1\n# again\n\ndv FRDV1\n", 9, 3),
+    (b"day 240102\nday 240101\ndv FRDV1", 7, 5),
+];
+
+#[test]
+fn setup_lines_and_event_lines_are_told_by_their_rules(rt: HostRuntime) -> Result<(), Fail> {
+    let alloc = rt.alloc();
+    for (behind, line, rule) in BEHIND_FIVE {
+        let mut script = Octets::from_slice(alloc, FIVE)?;
+        script.push_all(behind)?;
+        let (report, written) = run(alloc, script.as_slice())?;
+        assert_eq!(rt; report.status, Status::ScriptFault { line, rule });
         assert!(rt; written.as_slice().is_empty());
     }
     Ok(())

@@ -1,7 +1,6 @@
 -- The register's look-ups by key agree with its ledger.
-use Rattle.std.proofs.Common.{◌≡◌, ℕ, ◌+◌, ◌<◌, ◌≤◌, Bool, true, false, cond, List, [], ◌∷◌, length, Some, None, refl, sym, ap, ◌∙◌, arith, true≢false, nat_eq}
-use Rattle.std.proofs.lemmas.Bool.{le-leb, lt-leb, eqb-true}
-use Rattle.std.proofs.lemmas.List.Sums.{sum_by-cons}
+use Rattle.std.proofs.Common.{◌≡◌, ℕ, suc, ◌<◌, ◌≤◌, Bool, true, false, cond, List, [], ◌∷◌, length, Some, None, refl, sym, ap, ◌∙◌, arith, true≢false}
+use Rattle.std.proofs.lemmas.Bool.{le-leb, lt-leb}
 use Rattle.std.specs.Prelude.{◌&&◌, ◌||◌, not, nat_le}
 use Rattle.std.specs.List.{list_all}
 use Rattle.std.specs.declared.option.Option.{Option}
@@ -9,10 +8,10 @@ use Rattle.keeper.specs.declared.rows.Row.{Row}
 use Rattle.keeper.specs.declared.rows.Part.{Part}
 use Rattle.keeper.specs.declared.rows.Table.TheVariants.{Register as RegisterTable}
 use Rattle.std.specs.Str.{bytes_eq}
-use Rattle.keeper.specs.declared.rows.Table.{Table}
-use Rattle.keeper.specs.Rows.{table_of, same_table, is_of, row_at, rows_of, own_row, most_rows, UniqueKeys}
+use Rattle.keeper.specs.Rows.{is_of, row_at, rows_of, kept_row, most_rows, UniqueKeys}
 use Rattle.eac_base.proofs.EqualBytes.{bytes_eq-true, bytes_eq-self}
 use Rattle.keeper.proofs.UniqueRows.{unique_parts}
+use Rattle.keeper.proofs.SettledRows.{same_key}
 use Rattle.issue_core.specs.declared.rule.Rule.TheVariants.{Used, Full}
 use Rattle.issue_core.specs.Ledger.{Entry, faces, kept_for, IsUnused}
 use Rattle.issue_core.specs.Register.{Request, Asked, Entries, register, is_used, first_rule, entries_of, entry_of_row, bytes_of, day_of}
@@ -80,13 +79,13 @@ none_lacks (row ∷ rows) reference e = lacks_step (is_of RegisterTable 0 row) r
 
 -- ---- the number of rows is that of entries
 
-count_step : (o : Bool) (row : Row) (n : ℕ) (es : Entries) → n ≡ length es → cond o 1 0 + n ≡ length (cond o (entry_of_row row ∷ es) es)
-count_step true row n es e = omega (arith, e)
-count_step false row n es e = omega (arith, e)
+count_step : (o : Bool) (row : Row) (xs : List Row) (es : Entries) → length xs ≡ length es → length (cond o (row ∷ xs) xs) ≡ length (cond o (entry_of_row row ∷ es) es)
+count_step true row xs es e = ap suc e
+count_step false row xs es e = e
 
-pub count_is : (rows : List Row) → rows_of RegisterTable 0 rows ≡ length (entries_of rows)
+pub count_is : (rows : List Row) → length (rows_of RegisterTable 0 rows) ≡ length (entries_of rows)
 count_is [] = refl
-count_is (row ∷ rows) = sum_by-cons (λ x. cond (is_of RegisterTable 0 x) 1 0) row rows ∙ count_step (is_of RegisterTable 0 row) row (rows_of RegisterTable 0 rows) (entries_of rows) (count_is rows)
+count_is (row ∷ rows) = count_step (is_of RegisterTable 0 row) row (rows_of RegisterTable 0 rows) (entries_of rows) (count_is rows)
 
 pub faces_length : (es : Entries) → length (faces register es) ≡ length es
 faces_length [] = refl
@@ -130,22 +129,13 @@ full_rule es asked e full = ap (λ b. cond b (Some Used) (cond (nat_le most_rows
 pub no_rule : (es : List (Request × List ℕ)) (asked : Asked) → is_used es (asked.reference, asked.bytes) ≡ false → length es < most_rows → first_rule es asked ≡ None
 no_rule es asked e room = ap (λ b. cond b (Some Used) (cond (nat_le most_rows (length es)) (Some Full) None)) e ∙ ap (λ b. cond b (Some Full) None) (lt-leb most_rows (length es) room)
 
-pub face_count : (rows : List Row) → rows_of RegisterTable 0 rows ≡ length (faces register (entries_of rows))
+pub face_count : (rows : List Row) → length (rows_of RegisterTable 0 rows) ≡ length (faces register (entries_of rows))
 face_count rows = count_is rows ∙ sym (faces_length (entries_of rows))
 
 -- ---- rows with unique keys are a ledger
 
-and_parts : (a b : Bool) → a && b ≡ true → (a ≡ true) × (b ≡ true)
-and_parts true b e = (refl, e)
-and_parts false b e = absurd (true≢false (sym e))
-
-one_table : (t : Table) → t ≡ RegisterTable
-one_table RegisterTable = refl
-
-unique_step : (o : Bool) (row : Row) (rows : List Row) → is_of RegisterTable 0 row ≡ o → own_row row rows ≡ None → IsLedger (entries_of rows) → IsLedger (cond o (entry_of_row row ∷ entries_of rows) (entries_of rows))
-unique_step true row rows is e h =
-    let desk : row.desk ≡ 0 = eqb-true row.desk 0 (and_parts (same_table (table_of row.part) RegisterTable) (nat_eq row.desk 0) is).1 in
-    (none_lacks rows row.reference (sym (λ i. row_at (one_table (table_of row.part) i) (desk i) row.reference rows) ∙ e), h)
+unique_step : (o : Bool) (row : Row) (rows : List Row) → is_of RegisterTable 0 row ≡ o → kept_row row rows ≡ None → IsLedger (entries_of rows) → IsLedger (cond o (entry_of_row row ∷ entries_of rows) (entries_of rows))
+unique_step true row rows is e h = (none_lacks rows row.reference (sym (same_key RegisterTable 0 row.reference row (λ i. is i && bytes_eq-self row.reference i) rows) ∙ e), h)
 unique_step false row rows is e h = h
 
 pub unique_ledger : (rows : List Row) → UniqueKeys rows → IsLedger (entries_of rows)

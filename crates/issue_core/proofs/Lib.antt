@@ -4,3 +4,15 @@ pub mod Ledger
 pub mod Serves
 pub mod RowLaws
 pub mod DueAnswers
+pub mod Sizes
+pub mod Messages
+pub mod Makings
+pub mod Served
+pub mod Storable
+pub mod ServedTold
+pub mod RulesSeen
+pub mod LookedBy
+pub mod IssuedLists
+pub mod ListsOwe
+pub mod IssueStories
+pub mod Caused

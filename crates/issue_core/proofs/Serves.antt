@@ -1,6 +1,6 @@
 -- A call of the register is one delivery.
-use Rattle.std.proofs.Common.{◌≡◌, ℕ, ◌<◌, ◌≤◌, Bool, true, false, cond, List, [], ◌∷◌, ◌++◌, Some, None, Ok, Err, refl, sym, ap, ◌∙◌, subst, arith, append-nil, ⊎_elim}
-use Rattle.std.specs.Prelude.{IfSome}
+use Rattle.std.proofs.Common.{◌≡◌, ℕ, ◌<◌, ◌≤◌, Bool, true, false, cond, List, [], ◌∷◌, ◌++◌, length, Some, None, Ok, Err, refl, sym, ap, ◌∙◌, subst, arith, append-nil, ⊎_elim, inl, inr, true≢false, nat_eq}
+use Rattle.std.specs.Prelude.{◌&&◌, IfSome}
 use Rattle.std.specs.declared.option.Option.{Option}
 use Rattle.std.specs.declared.result.Result.{Result}
 use Rattle.eac_base.specs.Causes.{Rose}
@@ -9,19 +9,22 @@ use Rattle.keeper.specs.declared.rows.Part.{Part}
 use Rattle.keeper.specs.declared.rows.Table.TheVariants.{Register as RegisterTable}
 use Rattle.std.specs.Str.{bytes_eq}
 use Rattle.eac_base.specs.Telling.{Told}
-use Rattle.eac_base.proofs.Tellings.{told_then}
-use Rattle.keeper.specs.Rows.{row_at, rows_of, most_rows, UniqueKeys}
-use Rattle.keeper.specs.Keeping.{MayAdd}
+use Rattle.eac_base.proofs.Tellings.{told_then, told_more}
+use Rattle.keeper.specs.declared.rows.Part.TheVariants as part
+use Rattle.keeper.specs.Rows.{table_of, same_table, has_key, row_at, rows_of, most_rows, UniqueKeys}
+use Rattle.keeper.specs.Keeping.{MayAdd, Adds as KeeperAdds}
+use Rattle.keeper.specs.declared.traits.KeepRefusal.{KeepRefusal}
+use Rattle.keeper.specs.declared.traits.KeepRefusal.TheVariants.{Failed, Full as KeeperFull, Twice, Absent, NoMemory as KeeperNoMemory}
 use Rattle.issue_core.specs.declared.rule.Rule.{Rule}
 use Rattle.issue_core.specs.declared.rule.Rule.TheVariants.{Used, Full}
 use Rattle.issue_core.specs.declared.serving.RegisterAnswer.{RegisterAnswer}
 use Rattle.issue_core.specs.declared.serving.RegisterAnswer.TheVariants.{Issued, Kept, Refused}
 use Rattle.issue_core.specs.declared.serving.IssueFault.{IssueFault}
-use Rattle.issue_core.specs.declared.serving.IssueFault.TheVariants.{KeeperFault, NoMemory}
+use Rattle.issue_core.specs.declared.serving.IssueFault.TheVariants.{KeeperFault, ProviderFault, NoKey, NoMemory}
 use Rattle.issue_core.specs.Ledger.{Outcome, Issued as IssuedOutcome, Faulted, MayLeave, faces}
 use Rattle.issue_core.specs.Story.{Adds}
 use Rattle.issue_core.specs.Register.{Asked, Fault, KeeperFailed, register, unsigned, delivery_of, Serves, entries_of, bytes_of, day_of, again_of, outcome_of, row_of}
-use Rattle.issue_core.specs.Steps.{Looks, Enters}
+use Rattle.issue_core.specs.Steps.{Looks, Enters, answer_of}
 use Rattle.issue_core.proofs.Ledger.{Seen, lacks_both, unused, none_lacks, face_count, seen, used_rule, full_rule, no_rule, unique_ledger}
 
 -- ---- what a look answers
@@ -33,15 +36,34 @@ serves_row : (b : Bool) (before after : List Row) (asked : Asked) (counts : ℕ 
 serves_row true before after asked counts part same is seen = record { left = None; decides = record { left = tt; told = seen.0 is }; rows = unchanged after before same }
 serves_row false before after asked counts part same is seen = record { left = None; decides = record { left = tt; told = ((seen.1 is).0, used_rule (faces register (entries_of before)) asked (seen.1 is).1) }; rows = unchanged after before same }
 
-serves_full : (before after : List Row) (asked : Asked) (counts : ℕ × ℕ) → after ≡ before → row_at RegisterTable 0 asked.reference before ≡ None → most_rows ≤ rows_of RegisterTable 0 before → Serves before after asked counts (outcome_of (Ok (Refused Full)))
+-- the row of a key is one of its table
+found_here : (b : Bool) (r row : Row) (rest : Option Row) (P : Row → Type 0) → (b ≡ true → P r) → (rest ≡ Some row → P row) → cond b (Some r) rest ≡ Some row → P row
+found_here true r row rest P here there e = let same : r ≡ row = cc in subst P same (here refl)
+found_here false r row rest P here there e = there e
+
+found_in : (rows : List Row) (reference : List ℕ) (row : Row) → row_at RegisterTable 0 reference rows ≡ Some row → has_key RegisterTable 0 reference row ≡ true
+found_in [] reference row e = absurd (cc)
+found_in (r ∷ rows) reference row e = found_here (has_key RegisterTable 0 reference r) r row (row_at RegisterTable 0 reference rows) (λ x. has_key RegisterTable 0 reference x ≡ true) (λ h. h) (found_in rows reference row) e
+
+again_is : (p : Part) (desk : Bool) (named : Bool) (bytes : List ℕ) → (same_table (table_of p) RegisterTable && desk) && named ≡ true → again_of p bytes ≡ cond (bytes_eq (bytes_of p) bytes) (Kept (day_of p)) (Refused Used)
+again_is (part.Register request day) desk named bytes e = refl
+again_is (part.Issued p) desk named bytes e = absurd (true≢false (sym e))
+again_is (part.Own p) desk named bytes e = absurd (true≢false (sym e))
+again_is (part.Ca p) desk named bytes e = absurd (true≢false (sym e))
+
+-- what is answered where the row was found
+again_found : (rows : List Row) (reference bytes : List ℕ) (row : Row) → row_at RegisterTable 0 reference rows ≡ Some row → again_of row.part bytes ≡ cond (bytes_eq (bytes_of row.part) bytes) (Kept (day_of row.part)) (Refused Used)
+again_found rows reference bytes row e = again_is row.part (nat_eq row.desk 0) (bytes_eq row.reference reference) bytes (found_in rows reference row e)
+
+serves_full : (before after : List Row) (asked : Asked) (counts : ℕ × ℕ) → after ≡ before → row_at RegisterTable 0 asked.reference before ≡ None → most_rows ≤ length (rows_of RegisterTable 0 before) → Serves before after asked counts (outcome_of (Ok (Refused Full)))
 serves_full before after asked counts same none full =
     let both = lacks_both (entries_of before) (asked.reference, asked.bytes) (none_lacks before asked.reference none) in
     record { left = None; decides = record { left = tt; told = (both.0, full_rule (faces register (entries_of before)) asked both.1 (subst (λ n. most_rows ≤ n) (face_count before) full)) }; rows = unchanged after before same }
 
 serves_looked : (before after : List Row) (asked : Asked) (counts : ℕ × ℕ) (answer : RegisterAnswer) → UniqueKeys before → after ≡ before → Looks before asked.reference asked.bytes (Ok (Some answer)) → Serves before after asked counts (outcome_of (Ok answer))
 serves_looked before after asked counts answer unique same looked = ⊎_elim
-    (λ (h : (row : Row) × (row_at RegisterTable 0 asked.reference before ≡ Some row) × (answer ≡ again_of row.part asked.bytes)). subst (λ a. Serves before after asked counts (outcome_of (Ok a))) (sym h.2) (serves_row (bytes_eq (bytes_of h.0.part) asked.bytes) before after asked counts h.0.part same refl (seen before asked.reference asked.bytes h.0 h.1 (unique_ledger before unique))))
-    (λ (h : (row_at RegisterTable 0 asked.reference before ≡ None) × (most_rows ≤ rows_of RegisterTable 0 before) × (answer ≡ Refused Full)). subst (λ a. Serves before after asked counts (outcome_of (Ok a))) (sym h.2) (serves_full before after asked counts same h.0 h.1))
+    (λ (h : (row : Row) × (row_at RegisterTable 0 asked.reference before ≡ Some row) × (answer ≡ again_of row.part asked.bytes)). subst (λ a. Serves before after asked counts (outcome_of (Ok a))) (sym (h.2 ∙ again_found before asked.reference asked.bytes h.0 h.1)) (serves_row (bytes_eq (bytes_of h.0.part) asked.bytes) before after asked counts h.0.part same refl (seen before asked.reference asked.bytes h.0 h.1 (unique_ledger before unique))))
+    (λ (h : (row_at RegisterTable 0 asked.reference before ≡ None) × (most_rows ≤ length (rows_of RegisterTable 0 before)) × (answer ≡ Refused Full)). subst (λ a. Serves before after asked counts (outcome_of (Ok a))) (sym h.2) (serves_full before after asked counts same h.0 h.1))
     looked
 
 -- ---- the adding
@@ -71,6 +93,8 @@ entered before after asked counts (Err KeeperFault) may h cause =
     (λ (e : after ≡ before). record { left = None; decides = record { left = tt; told = cause refl }; rows = unchanged after before e })
     (λ (e : after ≡ before ++ row_asked asked ∷ []). record { left = Some asked.day; decides = record { left = may_issue before asked counts (Faulted KeeperFailed) may tt; told = cause refl }; rows = e })
     h
+entered before after asked counts (Err ProviderFault) may h cause = absurd h
+entered before after asked counts (Err (NoKey reference)) may h cause = absurd h
 entered before after asked counts (Err NoMemory) may h cause = record { left = None; decides = record { left = tt; told = tt }; rows = unchanged after before h }
 
 -- a count that rose later rose
@@ -88,3 +112,18 @@ serves_new old mid new asked counts found result is looked entry cause = told_th
     let none : Looks before asked.reference asked.bytes (Ok None) = subst (λ o. Looks before asked.reference asked.bytes (Ok o)) is l.1 in
     let may : MayAdd before (row_asked asked) = record { new = none.0; room = none.1 } in
     entered before after asked counts result may (subst (λ rows. MayAdd rows (row_asked asked) → Enters rows after (row_asked asked) result) l.0 e may) cause)
+
+-- ---- what any keeper answers to an adding
+
+enters_as : {U : Type 0} (before after : List Row) (row : Row) (day bytes : List ℕ) (added : Result U KeepRefusal) → day ≡ day_of row.part → MayAdd before row → KeeperAdds before after row added → Enters before after row (answer_of added day bytes)
+enters_as before after row day bytes (Ok u) is may a = (is, a.1)
+enters_as before after row day bytes (Err Failed) is may (inl e) = inl e
+enters_as before after row day bytes (Err Failed) is may (inr e) = inr e.1
+enters_as before after row day bytes (Err KeeperFull) is may a = let room = may.room in let full = a.2 in absurd (omega (arith, room, full))
+enters_as before after row day bytes (Err (Twice kept)) is may a = let new = may.new in let there = a.1 in absurd (cc (new, there))
+enters_as before after row day bytes (Err Absent) is may a = absurd a
+enters_as before after row day bytes (Err KeeperNoMemory) is may a = a
+
+pub told_enters : {U : Type 0} (old new : Option (List Row)) (asked row : Row) (day bytes : List ℕ) (added : Result U KeepRefusal) (result : Result RegisterAnswer IssueFault) → row ≡ asked → day ≡ day_of asked.part → result ≡ answer_of added day bytes → Told old new (λ before after. KeeperAdds before after row added) → Told old new (λ before after. MayAdd before asked → Enters before after asked result)
+told_enters old new asked row day bytes added result row_is is answered told = told_more (λ before after. KeeperAdds before after row added) (λ before after. MayAdd before asked → Enters before after asked result) old new told
+    (λ before after a may. subst (λ (r : Result RegisterAnswer IssueFault). Enters before after asked r) (sym answered) (enters_as before after asked day bytes added is may (subst (λ (x : Row). KeeperAdds before after x added) row_is a)))

@@ -1,12 +1,12 @@
 -- The plain register as a desk: a reference with bytes is the request, and the day is what is given (this project's own).
-use Rattle.std.specs.Prelude.{◌≡◌, ℕ, ◌≤◌, ◌&&◌, Bool, true, not, nat_le, List, [], ◌∷◌, ◌++◌, length, map, flat_map, Some, None, Ok, Err, if◌then◌else◌}
+use Rattle.std.specs.Prelude.{◌≡◌, ℕ, ◌≤◌, ◌&&◌, Bool, true, not, nat_le, List, [], ◌∷◌, ◌++◌, length, map, flat_map, Some, None, Ok, Err, IfErr, if◌then◌else◌}
 use Rattle.std.specs.declared.option.Option.{Option}
 use Rattle.std.specs.declared.result.Result.{Result}
 use Rattle.std.specs.List.{list_any}
 use Rattle.eac_base.specs.Causes.{Rose}
 use Rattle.keeper.specs.declared.rows.Row.{Row}
 use Rattle.keeper.specs.declared.rows.Part.{Part}
-use Rattle.keeper.specs.declared.rows.Part.TheVariants.{Register}
+use Rattle.keeper.specs.declared.rows.Part.TheVariants as part
 use Rattle.std.specs.Str.{bytes_eq}
 use Rattle.keeper.specs.Rows.{is_of, most_rows}
 use Rattle.keeper.specs.declared.rows.Table.TheVariants.{Register as RegisterTable}
@@ -15,7 +15,7 @@ use Rattle.issue_core.specs.declared.rule.Rule.TheVariants.{Used, Full}
 use Rattle.issue_core.specs.declared.serving.RegisterAnswer.{RegisterAnswer}
 use Rattle.issue_core.specs.declared.serving.RegisterAnswer.TheVariants.{Issued as AnswerIssued, Kept as AnswerKept, Refused as AnswerRefused}
 use Rattle.issue_core.specs.declared.serving.IssueFault.{IssueFault}
-use Rattle.issue_core.specs.declared.serving.IssueFault.TheVariants.{KeeperFault, NoMemory as FaultNoMemory}
+use Rattle.issue_core.specs.declared.serving.IssueFault.TheVariants.{KeeperFault, ProviderFault, NoKey, NoMemory as FaultNoMemory}
 use Rattle.issue_core.specs.Ledger.{Desk, TheKeeper, Entry, Outcome, Issued, Kept, Refused, Faulted, NoMemory, Delivery}
 use Rattle.issue_core.specs.Story.{Decides, Story}
 
@@ -75,18 +75,19 @@ RegisterStory = Story register unsigned
 abbrev pub delivery_of : Asked → ℕ × ℕ → Outcome (List ℕ) Rule Fault → Option (List ℕ) → Delivery Asked (List ℕ) Rule Fault
 delivery_of asked counts outcome left = record { case_of = asked; outcome = outcome; left = left; keeper = counts; provider = (0, 0); held = true }
 
--- the number by which a journal tells a rule
-abbrev pub number_of : Rule → ℕ
-number_of Used = 2
-number_of Full = 12
-
 -- ---- its rows
 
 abbrev pub bytes_of : Part → List ℕ
-bytes_of (Register request day) = request
+bytes_of (part.Register request day) = request
+bytes_of (part.Issued p) = []
+bytes_of (part.Own p) = []
+bytes_of (part.Ca p) = []
 
 abbrev pub day_of : Part → List ℕ
-day_of (Register request day) = day
+day_of (part.Register request day) = day
+day_of (part.Issued p) = []
+day_of (part.Own p) = []
+day_of (part.Ca p) = []
 
 -- the entry of a row
 abbrev pub entry_of_row : Row → Entry Request (List ℕ)
@@ -99,7 +100,7 @@ entries_of (row ∷ rows) = if is_of RegisterTable 0 row then entry_of_row row �
 
 -- the row of a request that was given a day
 abbrev pub row_of : List ℕ → List ℕ → List ℕ → Row
-row_of reference bytes day = record { desk = 0; reference = reference; part = Register bytes day }
+row_of reference bytes day = record { desk = 0; reference = reference; part = part.Register bytes day }
 
 -- the rows of a ledger
 abbrev pub rows_of_ledger : Entries → List Row
@@ -122,19 +123,32 @@ pub record Serves (before after : List Row) (asked : Asked) (counts : ℕ × ℕ
   pub decides : Decides register unsigned (entries_of before) (delivery_of asked counts outcome left)
   pub rows : after ≡ before ++ rows_left asked left
 
--- the answer of a call as the outcome of a delivery
+-- the answer of a call as the outcome of a delivery; the two faults that have to do with a provider never come
 abbrev pub outcome_of : Result RegisterAnswer IssueFault → Outcome (List ℕ) Rule Fault
 outcome_of (Ok (AnswerIssued day)) = Issued day
 outcome_of (Ok (AnswerKept day)) = Kept day
 outcome_of (Ok (AnswerRefused rule)) = Refused rule
 outcome_of (Err KeeperFault) = Faulted KeeperFailed
+outcome_of (Err ProviderFault) = NoMemory
+outcome_of (Err (NoKey reference)) = NoMemory
 outcome_of (Err FaultNoMemory) = NoMemory
 
 -- what is answered where the reference has a row
 abbrev pub again_of : Part → List ℕ → RegisterAnswer
-again_of part bytes = if bytes_eq (bytes_of part) bytes then AnswerKept (day_of part) else AnswerRefused Used
+again_of (part.Register request day) bytes = if bytes_eq request bytes then AnswerKept day else AnswerRefused Used
+again_of (part.Issued p) bytes = AnswerRefused Used
+again_of (part.Own p) bytes = AnswerRefused Used
+again_of (part.Ca p) bytes = AnswerRefused Used
 
--- the count of faults has not fallen, and the keeper's fault came only where it rose
+-- of the faults only the keeper's comes
+abbrev pub IsKeepers : IssueFault → Type 0
+IsKeepers KeeperFault = Unit {0}
+IsKeepers ProviderFault = ⊥
+IsKeepers (NoKey reference) = ⊥
+IsKeepers FaultNoMemory = Unit {0}
+
+-- the count of faults has not fallen, and the keeper's fault came only where it rose, and no other fault
 pub record HasCause {T : Type 0} (before now : ℕ) (result : Result T IssueFault) : Type 0 where
   pub later : before ≤ now
   pub failed : result ≡ Err KeeperFault → Rose before now
+  pub only : IfErr result IsKeepers

@@ -1,5 +1,5 @@
 -- The two steps of a registering: a look at the rows, and the adding (this project's own).
-use Rattle.std.specs.Prelude.{◌≡◌, ◌⊎◌, ℕ, ◌<◌, ◌≤◌, List, [], ◌∷◌, ◌++◌, Some, None, Ok, Err}
+use Rattle.std.specs.Prelude.{◌≡◌, ◌⊎◌, ℕ, ◌<◌, ◌≤◌, List, [], ◌∷◌, ◌++◌, length, Some, None, Ok, Err}
 use Rattle.std.specs.declared.option.Option.{Option}
 use Rattle.std.specs.declared.result.Result.{Result}
 use Rattle.keeper.specs.declared.rows.Row.{Row}
@@ -11,14 +11,14 @@ use Rattle.issue_core.specs.declared.rule.Rule.TheVariants.{Full}
 use Rattle.issue_core.specs.declared.serving.RegisterAnswer.{RegisterAnswer}
 use Rattle.issue_core.specs.declared.serving.RegisterAnswer.TheVariants.{Issued, Refused}
 use Rattle.issue_core.specs.declared.serving.IssueFault.{IssueFault}
-use Rattle.issue_core.specs.declared.serving.IssueFault.TheVariants.{KeeperFault, NoMemory}
+use Rattle.issue_core.specs.declared.serving.IssueFault.TheVariants.{KeeperFault, ProviderFault, NoKey, NoMemory}
 use Rattle.issue_core.specs.Register.{again_of, day_of}
 
 -- what a look answers: the row of the reference, or a full table, or nothing
 abbrev pub Looks : List Row → List ℕ → List ℕ → Result (Option RegisterAnswer) IssueFault → Type 0
 Looks rows reference bytes (Ok (Some answer)) =
-    ((row : Row) × (row_at RegisterTable 0 reference rows ≡ Some row) × (answer ≡ again_of row.part bytes)) ⊎ ((row_at RegisterTable 0 reference rows ≡ None) × (most_rows ≤ rows_of RegisterTable 0 rows) × (answer ≡ Refused Full))
-Looks rows reference bytes (Ok None) = (row_at RegisterTable 0 reference rows ≡ None) × (rows_of RegisterTable 0 rows < most_rows)
+    ((row : Row) × (row_at RegisterTable 0 reference rows ≡ Some row) × (answer ≡ again_of row.part bytes)) ⊎ ((row_at RegisterTable 0 reference rows ≡ None) × (most_rows ≤ length (rows_of RegisterTable 0 rows)) × (answer ≡ Refused Full))
+Looks rows reference bytes (Ok None) = (row_at RegisterTable 0 reference rows ≡ None) × (length (rows_of RegisterTable 0 rows) < most_rows)
 Looks rows reference bytes (Err fault) = Unit {0}
 
 -- what an adding does to the rows, where the row may be added
@@ -26,6 +26,8 @@ abbrev pub Enters : List Row → List Row → Row → Result RegisterAnswer Issu
 Enters old new row (Ok (Issued day)) = (day ≡ day_of row.part) × (new ≡ old ++ row ∷ [])
 Enters old new row (Ok other) = ⊥
 Enters old new row (Err KeeperFault) = (new ≡ old) ⊎ (new ≡ old ++ row ∷ [])
+Enters old new row (Err ProviderFault) = ⊥
+Enters old new row (Err (NoKey reference)) = ⊥
 Enters old new row (Err NoMemory) = new ≡ old
 
 -- what is answered to an adding, as any keeper may answer it

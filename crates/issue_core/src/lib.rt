@@ -13,12 +13,28 @@
 //! Scripts, journals and messages are left to the layers above.
 #![tactic(auto)]
 
+mod deciding;
+mod fault;
+mod issue_laws;
+#[cfg(test)]
+mod issue_tests;
+mod issuing;
 mod laws;
+mod looking;
+mod making;
 mod rule;
 mod serving;
+mod signing_row;
 #[cfg(test)]
 mod tests;
+mod verdicts;
+mod vouching_row;
 
+pub use issue_laws::{
+    a_repeat_has_its_certificate, calls_go_on, issued_answers_are_due, keys_are_needed, lists_owe,
+    one_certificate_for_a_number, repeats_issue_nothing, struck_requests_decide,
+};
+pub use issuing::{Answer, issue};
 pub use laws::{
     a_repeat_is_kept, a_story_goes_on, answers_are_due, one_entry_for_a_reference,
     repeats_change_nothing, repeats_decide_nothing, rows_are_the_ledger,

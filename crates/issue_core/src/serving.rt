@@ -27,6 +27,10 @@ pub enum RegisterAnswer {
 pub enum IssueFault {
     /// A call of the keeper failed.
     KeeperFault,
+    /// A call of the provider failed.
+    ProviderFault,
+    /// The provider doesn't hold the key of the own row with this reference, which is the one to sign with.
+    NoKey(Reference),
     /// Memory is wanting.
     NoMemory,
 }
@@ -43,6 +47,7 @@ fn answer_again(part: &Part, request: &[u8]) -> RegisterAnswer
                 RegisterAnswer::Refused(Rule::Used)
             }
         }
+        _ => RegisterAnswer::Refused(Rule::Used),
     }
 }
 

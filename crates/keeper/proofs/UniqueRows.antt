@@ -7,10 +7,9 @@ use Rattle.std.specs.declared.result.Result.{Result}
 use Rattle.eac_base.proofs.EqualBytes.{bytes_eq-sym}
 use Rattle.keeper.specs.declared.rows.Row.{Row}
 use Rattle.keeper.specs.declared.rows.Table.{Table}
-use Rattle.keeper.specs.declared.rows.Table.TheVariants.{Register}
 use Rattle.keeper.specs.declared.traits.KeepRefusal.{KeepRefusal}
 use Rattle.keeper.specs.declared.traits.KeepRefusal.TheVariants.{Failed, Full, Twice, Absent, NoMemory}
-use Rattle.keeper.specs.Rows.{table_of, same_table, has_key, row_at, own_row, are_unique, UniqueKeys}
+use Rattle.keeper.specs.Rows.{table_of, kind_of, same_table, has_key, row_at, kept_row, are_unique, UniqueKeys}
 use Rattle.keeper.specs.Keeping.{Adds, MayAdd}
 
 tell_both : (a b : Bool) → (a ≡ true → b ≡ true) → (b ≡ true → a ≡ true) → a ≡ b
@@ -22,16 +21,16 @@ same_number : (x y : ℕ) → nat_eq x y ≡ nat_eq y x
 same_number x y = tell_both (nat_eq x y) (nat_eq y x) (λ e. eq-eqb y x (sym (eqb-true x y e))) (λ e. eq-eqb x y (sym (eqb-true y x e)))
 
 table_twice : (t u : Table) → same_table t u ≡ same_table u t
-table_twice Register Register = refl
+table_twice t u = same_number (kind_of t) (kind_of u)
 
 -- one row's key tried at another
-abbrev has_own : Row → Row → Bool
+abbrev pub has_own : Row → Row → Bool
 has_own a b = has_key (table_of a.part) a.desk a.reference b
 
 own_sym : (a b : Row) → has_own a b ≡ has_own b a
 own_sym a b = λ i. (table_twice (table_of b.part) (table_of a.part) i && same_number b.desk a.desk i) && bytes_eq-sym b.reference a.reference i
 
-here_none : (b : Bool) (r : Row) (rest : Option Row) → cond b (Some r) rest ≡ None → (b ≡ false) × (rest ≡ None)
+pub here_none : (b : Bool) (r : Row) (rest : Option Row) → cond b (Some r) rest ≡ None → (b ≡ false) × (rest ≡ None)
 here_none true r rest e = absurd (cc)
 here_none false r rest e = (refl, e)
 
@@ -53,21 +52,21 @@ is_none : (found : Option Row) → found ≡ None → not (is_some found) ≡ tr
 is_none None e = refl
 is_none (Some row) e = absurd (cc)
 
-and_parts : (a b : Bool) → a && b ≡ true → (a ≡ true) × (b ≡ true)
+pub and_parts : (a b : Bool) → a && b ≡ true → (a ≡ true) × (b ≡ true)
 and_parts true b e = (refl, e)
 and_parts false b e = absurd (true≢false (sym e))
 
 -- the first row's key is no later one's, and the later ones are unique
-pub unique_parts : (row : Row) (rows : List Row) → UniqueKeys (row ∷ rows) → (own_row row rows ≡ None) × UniqueKeys rows
-unique_parts row rows u = let parts = and_parts (not (is_some (own_row row rows))) (are_unique rows) u in (none_is (own_row row rows) parts.0, parts.1)
+pub unique_parts : (row : Row) (rows : List Row) → UniqueKeys (row ∷ rows) → (kept_row row rows ≡ None) × UniqueKeys rows
+unique_parts row rows u = let parts = and_parts (not (is_some (kept_row row rows))) (are_unique rows) u in (none_is (kept_row row rows) parts.0, parts.1)
 
-unique_cons : (row : Row) (rows : List Row) → own_row row rows ≡ None → UniqueKeys rows → UniqueKeys (row ∷ rows)
-unique_cons row rows e u = ap (λ b. b && are_unique rows) (is_none (own_row row rows) e) ∙ u
+unique_cons : (row : Row) (rows : List Row) → kept_row row rows ≡ None → UniqueKeys rows → UniqueKeys (row ∷ rows)
+unique_cons row rows e u = ap (λ b. b && are_unique rows) (is_none (kept_row row rows) e) ∙ u
 
-pub unique_more : (rows : List Row) (row : Row) → UniqueKeys rows → own_row row rows ≡ None → UniqueKeys (rows ++ row ∷ [])
+pub unique_more : (rows : List Row) (row : Row) → UniqueKeys rows → kept_row row rows ≡ None → UniqueKeys (rows ++ row ∷ [])
 unique_more [] row u e = unique_cons row [] refl refl
 unique_more (r ∷ rs) row u e =
-    let h = here_none (has_own row r) r (own_row row rs) e in
+    let h = here_none (has_own row r) r (kept_row row rs) e in
     let parts = unique_parts r rs u in
     unique_cons r (rs ++ row ∷ []) (none_more (table_of r.part) r.desk r.reference rs row parts.0 (own_sym r row ∙ h.0)) (unique_more rs row parts.1 h.1)
 

@@ -1,4 +1,5 @@
 pub mod Rows
 pub mod Keeping
+pub mod Steps
 pub mod Planned
 pub mod Fading

@@ -5,12 +5,13 @@ use Rattle.std.specs.declared.option.Option.{Option}
 use Rattle.std.specs.declared.result.Result.{Result}
 use Rattle.eac_base.specs.Planned.{next_count}
 use Rattle.keeper.specs.declared.rows.Row.{Row}
+use Rattle.keeper.specs.declared.rows.Settled.{Settled}
 use Rattle.keeper.specs.declared.plan.Moment.{Moment}
 use Rattle.keeper.specs.declared.plan.Moment.TheVariants.{Before, After}
 use Rattle.keeper.specs.declared.traits.KeepRefusal.{KeepRefusal}
 use Rattle.keeper.specs.declared.traits.KeepRefusal.TheVariants.{Failed, NoMemory}
-use Rattle.keeper.specs.Rows.{UniqueKeys}
-use Rattle.keeper.specs.Keeping.{MayAdd}
+use Rattle.keeper.specs.Rows.{settled_rows, UniqueKeys}
+use Rattle.keeper.specs.Keeping.{MayAdd, MaySettle}
 
 -- A keeper in memory: its rows, its plan, and its numbers of calls and of faults.
 pub record KeeperValue : Type 0 where
@@ -43,15 +44,21 @@ pub record IsCounted (old new : KeeperValue) : Type 0 where
 
 -- ---- what a failing call does
 
--- the row stands at the end where it may be added, and else nothing has changed
-abbrev pub WithRow : List Row → List Row → Row → Type 0
-WithRow old new row = (MayAdd old row × (new ≡ old ++ row ∷ [])) ⊎ ((MayAdd old row → ⊥) × (new ≡ old))
+-- the rows are as the call leaves them where it may change them, and else nothing has changed
+abbrev pub Changed : Type 0 → List Row → List Row → List Row → Type 0
+Changed may changed old new = (may × (new ≡ changed)) ⊎ ((may → ⊥) × (new ≡ old))
 
--- an adding that fails at this moment, or doesn't fail. One that fails after its change may want memory for it.
+-- a change that fails at this moment, or doesn't fail. One that fails after its change may want memory for it.
+abbrev pub ChangesAt : {U : Type 0} → Option Moment → Type 0 → List Row → List Row → List Row → Result U KeepRefusal → Type 0
+ChangesAt None may changed old new result = result ≢ Err Failed
+ChangesAt (Some Before) may changed old new result = (result ≡ Err Failed) × (new ≡ old)
+ChangesAt (Some After) may changed old new result = ((result ≡ Err Failed) × Changed may changed old new) ⊎ ((result ≡ Err NoMemory) × (new ≡ old))
+
 abbrev pub AddsAt : {U : Type 0} → Option Moment → List Row → List Row → Row → Result U KeepRefusal → Type 0
-AddsAt None old new row result = result ≢ Err Failed
-AddsAt (Some Before) old new row result = (result ≡ Err Failed) × (new ≡ old)
-AddsAt (Some After) old new row result = ((result ≡ Err Failed) × WithRow old new row) ⊎ ((result ≡ Err NoMemory) × (new ≡ old))
+AddsAt moment old new row result = ChangesAt moment (MayAdd old row) (old ++ row ∷ []) old new result
+
+abbrev pub SettlesAt : {U : Type 0} → Option Moment → List Row → List Row → ℕ → List ℕ → Settled → Result U KeepRefusal → Type 0
+SettlesAt moment old new desk reference settled result = ChangesAt moment (MaySettle old desk reference) (settled_rows desk reference settled old) old new result
 
 -- a reading that fails at this moment, or doesn't fail
 abbrev pub ReadsAt : {T : Type 0} → Option Moment → Result T KeepRefusal → Type 0

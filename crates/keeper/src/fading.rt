@@ -1,12 +1,12 @@
 // A keeper that stops telling, for tests of callers.
 ghost use Rattle.std.specs.Prelude.{◌≡◌, ◌&&◌, true, is_ok};
 ghost use Rattle.eac_base.specs.Telling.{Told};
-ghost use Rattle.keeper.specs.Rows.{IsStorable};
-ghost use Rattle.keeper.specs.Keeping.{Adds, AddAsked, Finds, FindAsked, Counts, CountAsked, FaultRose};
+ghost use Rattle.keeper.specs.Rows.{IsStorable, IsStorableSettled};
+ghost use Rattle.keeper.specs.Keeping.{Adds, AddAsked, Settles, SettleAsked, Finds, FindAsked, ListsDesk, DeskAsked, ListsHolder, HolderAsked, Counts, CountAsked, FaultRose};
 ghost use Rattle.keeper.specs.Fading.{told_if, told_unique};
 
-use crate::{KeepRefusal, Keeper, MemoryKeeper, Row, Table};
-use holder_reference::Reference;
+use crate::{KeepRefusal, Keeper, MemoryKeeper, Row, Rows, Settled, Table};
+use holder_reference::{Holder, Reference};
 use std::alloc::Global;
 use std::marker::Model;
 
@@ -59,6 +59,27 @@ impl Keeper for FadingKeeper {
         result
     }
 
+    fn settle(
+        &mut self,
+        alloc: Global,
+        desk: u32,
+        reference: &Reference,
+        settled: &Settled,
+    ) -> Result<(), KeepRefusal>
+        requires { IsStorableSettled settled.now }
+        ensures told { Told (told_if self.old.clean self.old.kept.rows) (told_if self.new.clean self.new.kept.rows) (λ before after. Settles before after desk reference.now settled.now result) }
+        ensures asked { SettleAsked desk reference.now result }
+        ensures cause { FaultRose self.old.kept.faults self.new.kept.faults result }
+        // It tells until a call is refused.
+        ensures clean { self.new.clean ≡ (self.old.clean && is_ok result) }
+    {
+        let result = self.kept.settle(alloc, desk, reference, settled);
+        if result.is_err() {
+            self.clean = false;
+        }
+        result
+    }
+
     fn find(
         &mut self,
         alloc: Global,
@@ -73,6 +94,40 @@ impl Keeper for FadingKeeper {
         ensures clean { self.new.clean ≡ (self.old.clean && is_ok result) }
     {
         let result = self.kept.find(alloc, table, desk, reference);
+        if result.is_err() {
+            self.clean = false;
+        }
+        result
+    }
+
+    fn of_desk(&mut self, alloc: Global, table: Table, desk: u32) -> Result<Rows, KeepRefusal>
+        ensures told { Told (told_if self.old.clean self.old.kept.rows) (told_if self.new.clean self.new.kept.rows) (λ before after. (after ≡ before) × ListsDesk before table desk result) }
+        ensures asked { DeskAsked table desk result }
+        ensures cause { FaultRose self.old.kept.faults self.new.kept.faults result }
+        // It tells until a call is refused.
+        ensures clean { self.new.clean ≡ (self.old.clean && is_ok result) }
+    {
+        let result = self.kept.of_desk(alloc, table, desk);
+        if result.is_err() {
+            self.clean = false;
+        }
+        result
+    }
+
+    fn of_holder(
+        &mut self,
+        alloc: Global,
+        table: Table,
+        desk: u32,
+        holder: &Holder,
+    ) -> Result<Rows, KeepRefusal>
+        ensures told { Told (told_if self.old.clean self.old.kept.rows) (told_if self.new.clean self.new.kept.rows) (λ before after. (after ≡ before) × ListsHolder before table desk holder.now result) }
+        ensures asked { HolderAsked table desk holder.now result }
+        ensures cause { FaultRose self.old.kept.faults self.new.kept.faults result }
+        // It tells until a call is refused.
+        ensures clean { self.new.clean ≡ (self.old.clean && is_ok result) }
+    {
+        let result = self.kept.of_holder(alloc, table, desk, holder);
         if result.is_err() {
             self.clean = false;
         }

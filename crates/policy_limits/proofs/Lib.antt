@@ -1,4 +1,5 @@
 pub mod Cuts
+pub mod DeskLists
 pub mod LineWords
 pub mod NumberWords
 pub mod Rosters

@@ -1,5 +1,5 @@
 -- The reading of a setup, one line after the other.
-use Rattle.std.proofs.Common.{◌≡◌, ℕ, List, [], ◌∷◌, None, Some, Ok, Err, refl, ap, ◌∙◌}
+use Rattle.std.proofs.Common.{◌≡◌, ℕ, List, [], ◌∷◌, ◌++◌, None, Some, Ok, Err, refl, ap, ◌∙◌}
 use Rattle.std.specs.declared.option.Option.{Option}
 use Rattle.std.specs.declared.result.Result.{Result}
 use Rattle.eac_base.specs.Answers.{◌>>=◌, Refuses}
@@ -23,6 +23,16 @@ module _ (all : Result Roster SetupRefusal) (before : Roster) (line : ℕ × Lis
 
 pub all_read : (all : Result Roster SetupRefusal) (before : Roster) (lines : List (ℕ × List ℕ)) → all ≡ with_lines before lines → lines ≡ [] → all ≡ Ok before
 all_read all before lines so none = so ∙ ap (with_lines before) none
+
+-- ---- one text behind another
+
+then : (w : Result Roster SetupRefusal) (front back : List (ℕ × List ℕ)) → ((next : Roster) → with_lines next (front ++ back) ≡ (with_lines next front >>= λ r. with_lines r back)) → (w >>= λ next. with_lines next (front ++ back)) ≡ ((w >>= λ next. with_lines next front) >>= λ r. with_lines r back)
+then (Ok next) front back h = h next
+then (Err f) front back h = refl
+
+pub both_parts : (start : Roster) (front back : List (ℕ × List ℕ)) → with_lines start (front ++ back) ≡ (with_lines start front >>= λ r. with_lines r back)
+both_parts start [] back = refl
+both_parts start (line ∷ front) back = then (with_line start line) front back (λ next. both_parts next front back)
 
 -- ---- the first line that breaks a rule
 

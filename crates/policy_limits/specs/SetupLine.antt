@@ -1,5 +1,5 @@
 -- Setup lines: what the words of one say, behind the lines before it (this project's own).
-use Rattle.std.specs.Prelude.{ℕ, nat_lt, List, [], ◌∷◌, ◌++◌, length, take, drop, Bool, true, false, ◌&&◌, Option, Some, None, if◌then◌else◌, codes, is_none}
+use Rattle.std.specs.Prelude.{ℕ, nat_lt, List, [], ◌∷◌, ◌++◌, length, take, drop, Bool, true, false, ◌&&◌, ◌||◌, Option, Some, None, if◌then◌else◌, codes, is_none}
 use Rattle.std.specs.Result.{result_ok}
 use Rattle.std.specs.Str.{bytes_eq}
 use Rattle.eac_base.specs.Answers.{◌gives◌}
@@ -8,7 +8,7 @@ use Rattle.chat_rights.specs.declared.Role.{Role}
 use Rattle.chat_rights.specs.declared.Role.TheVariants.{Cvca, Domestic, Foreign, Terminal}
 use Rattle.signature_provider.specs.declared.key.FormName.{FormName}
 use Rattle.signature_provider.specs.declared.key.FormName.TheVariants.{Ec, Rsa}
-use Rattle.policy_limits.specs.Lines.{one_word}
+use Rattle.policy_limits.specs.Lines.{pieces, one_word}
 use Rattle.policy_limits.specs.Numbers.{number_word, rights_word}
 use Rattle.policy_limits.specs.Roster.{Roster, is_authority, can_be, party, number_of, registration, party_fits, registration_fits}
 use Rattle.policy_limits.specs.declared.party.Party.{Party}
@@ -102,6 +102,19 @@ line_said r (kind ∷ rest) =
     if bytes_eq kind (codes "cvca") then authority_said rest else (if bytes_eq kind (codes "dv") then plain_said kinds.Dv rest
     else (if bytes_eq kind (codes "terminal") then plain_said kinds.Terminal rest
     else (if bytes_eq kind (codes "register") then registration_said r rest else None)))
+
+-- ---- which lines are setup lines
+
+abbrev pub is_kind : List ℕ → Bool
+is_kind w = bytes_eq w (codes "cvca") || bytes_eq w (codes "dv") || bytes_eq w (codes "terminal") || bytes_eq w (codes "register")
+
+abbrev pub begins_with_kind : List (List ℕ) → Bool
+begins_with_kind [] = false
+begins_with_kind (w ∷ rest) = is_kind w
+
+-- A line is a setup line by what stands before its first space, whatever comes behind it.
+abbrev pub is_setup_line : List ℕ → Bool
+is_setup_line line = begins_with_kind (pieces line)
 
 -- ---- limits, what is said twice, and what a line adds
 

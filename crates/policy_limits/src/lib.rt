@@ -2,7 +2,8 @@
 //!
 //! A [`Setup`] keeps in its type what holds of every setup: how many parties there are, that no two of them and no two
 //! registrations are alike, and that days and live limits are within their limits. [`read_setup`] reads it from its lines,
-//! or names the first line that breaks a rule. [`validity`] is how long a certificate is valid (after BSI TR-03139).
+//! or names the first line that breaks a rule; [`take_line`] takes one of them, for a text that has other lines too.
+//! [`validity`] is how long a certificate is valid (after BSI TR-03139).
 //!
 //! [`lines`] and [`words`] cut a plain text into lines with their numbers and a line into its words; scripts are cut
 //! with them too.
@@ -10,6 +11,7 @@
 //! What a desk does with a registration, and which certificate is its authority's, is left to the layers above.
 #![tactic(auto)]
 
+mod desks;
 mod limits;
 pub mod lines;
 pub mod numbers;
@@ -26,4 +28,5 @@ pub use limits::{maximum_days, minimum_days, validity};
 pub use party::{Party, PartyKind, PartyList};
 pub use registration::{First, Registration, RegistrationList};
 pub use setup::Setup;
-pub use setup_text::{SetupRefusal, read_setup, the_first_line_is_named};
+pub use setup_line::is_setup_line;
+pub use setup_text::{SetupRefusal, read_setup, take_line, the_first_line_is_named};

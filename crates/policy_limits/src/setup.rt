@@ -4,6 +4,7 @@ ghost use Rattle.std.specs.Option.{option_copied};
 ghost use Rattle.policy_limits.specs.Roster as roster;
 ghost use Rattle.policy_limits.specs.Roster.{IsRoster, roster_of};
 
+use crate::desks::Desks;
 use crate::party::{Party, PartyList};
 use crate::registration::{Registration, RegistrationList};
 use holder_reference::Holder;
@@ -18,26 +19,31 @@ use std::marker::Model;
 pub struct Setup {
     pub parties: PartyList,
     pub registrations: RegistrationList,
+    // the same registrations by their desk, so that look-ups are fast; none where memory was wanting for them
+    pub(crate) desks: Option<Desks>,
 }
 
 impl Model for Setup {
+    ghost use Rattle.std.specs.Prelude.{IfSome};
+    ghost use Rattle.policy_limits.specs.Desks.{AreAt};
     ghost use Rattle.policy_limits.specs.Roster.{Roster, IsRoster, roster_of};
 
     ghost Value = { Roster };
 
     ghost view = { λ s. roster_of s.parties s.registrations };
 
-    ghost invariant = { λ s. IsRoster (roster_of s.parties s.registrations) };
+    ghost invariant = { λ s. IsRoster (roster_of s.parties s.registrations) × IfSome s.desks (λ desks. AreAt desks.lists s.registrations) };
 }
 
 impl Setup {
     /// No parties and no registrations.
-    pub(crate) fn new(alloc: Global) -> Setup
+    pub fn new(alloc: Global) -> Setup
         ensures { result ≡ roster_of [] [] }
     {
         Setup {
             parties: PartyList::new(alloc),
             registrations: RegistrationList::new(alloc),
+            desks: Some(Desks::new(alloc)),
         }
     }
 
@@ -65,6 +71,9 @@ impl Setup {
         ensures found { option_copied result ≡ roster.registration self.now desk holder.now }
         ensures legal { IsRoster self.now }
     {
-        self.registrations.at_desk(desk, holder)
+        match &self.desks {
+            Some(desks) => desks.at(desk, holder),
+            None => self.registrations.at_desk(desk, holder),
+        }
     }
 }

@@ -237,3 +237,14 @@ pub fn read_line(setup: &Setup, line: &[u8]) -> Option<SetupLine>
         None
     }
 }
+
+/// Whether the line is a setup line by its first word, whatever comes behind it.
+pub fn is_setup_line(line: &[u8]) -> bool
+    ensures { result ≡ grammar.is_setup_line line.now }
+{
+    let (kind, _) = cut(line);
+    is_same(kind, b"cvca")
+        || is_same(kind, b"dv")
+        || is_same(kind, b"terminal")
+        || is_same(kind, b"register")
+}

@@ -3,10 +3,12 @@ ghost use Rattle.std.specs.Prelude.{◌≡◌, IfErr, OnOk, OnErr, Ok, Err, IsTr
 ghost use Rattle.eac_base.specs.Answers.{Answers, Refuses};
 ghost use Rattle.policy_limits.specs.Roster as roster;
 ghost use Rattle.policy_limits.specs.SetupLine as grammar;
+ghost use Rattle.policy_limits.specs.declared.setup_line.SetupLine.TheVariants as said;
 ghost use Rattle.policy_limits.specs.SetupText as words;
 ghost use Rattle.policy_limits.specs.SetupText.{FirstIsNamed};
 ghost use Rattle.policy_limits.specs.Validity as limits;
 
+use crate::desks::with_more;
 use crate::limits::{maximum_days, minimum_days};
 use crate::lines::next_numbered;
 use crate::party::PartyKind;
@@ -81,6 +83,19 @@ fn is_new(setup: &Setup, line: &SetupLine) -> bool
     }
 }
 
+/// Adds the registration, or nothing where memory is wanting.
+fn add_registration(setup: &mut Setup, registration: Registration) -> Result<(), NoMemory>
+    requires fits { IsTrue (grammar.fits setup.old (said.Registration registration)) }
+    requires new { IsTrue (grammar.is_new setup.old (said.Registration registration)) }
+    ensures added { OnOk result (setup.new ≡ grammar.added setup.old (said.Registration registration)) }
+    ensures kept { OnErr result (setup.new ≡ setup.old) }
+{
+    let desks = with_more(setup.desks.take(), &registration);
+    setup.registrations.push(registration)?;
+    setup.desks = desks;
+    Ok(())
+}
+
 /// Adds what a line says, or nothing where memory is wanting.
 fn add(setup: &mut Setup, line: SetupLine) -> Result<(), NoMemory>
     requires fits { IsTrue (grammar.fits setup.old line) }
@@ -90,12 +105,16 @@ fn add(setup: &mut Setup, line: SetupLine) -> Result<(), NoMemory>
 {
     match line {
         SetupLine::Party(party) => setup.parties.push(party),
-        SetupLine::Registration(registration) => setup.registrations.push(registration),
+        SetupLine::Registration(registration) => add_registration(setup, registration),
     }
 }
 
-/// Adds what the line of this number says, or names the first rule that it breaks and adds nothing.
-fn take_line(setup: &mut Setup, number: u64, line: &[u8]) -> Result<(), SetupRefusal>
+/// Adds what the line of this number says, behind the lines that made the setup.
+///
+/// # Errors
+///
+/// The first rule that the line breaks, or want of memory, as at [`read_setup`]. The setup is then as it was.
+pub fn take_line(setup: &mut Setup, number: u64, line: &[u8]) -> Result<(), SetupRefusal>
     ensures taken { OnOk result (words.with_line setup.old (number, line.now) ≡ Ok setup.new) }
     ensures refused { IfErr result (λ e. Refuses (words.rule_of e) (words.with_line setup.old (number, line.now))) }
     ensures kept { OnErr result (setup.new ≡ setup.old) }

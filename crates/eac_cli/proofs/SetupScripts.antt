@@ -1,0 +1,136 @@
+-- A text of setup lines alone, as a setup and as a script.
+use Rattle.std.proofs.Common.{◌≡◌, ℕ, ◌+◌, Bool, true, false, cond, List, [], ◌∷◌, ◌++◌, map, length, None, Some, Ok, Err, refl, sym, ap, ◌∙◌, subst}
+use Rattle.std.specs.declared.option.Option.{Option}
+use Rattle.std.specs.declared.result.Result.{Result}
+use Rattle.std.specs.Prelude.{codes, ◌||◌}
+use Rattle.std.specs.List.{list_all, slice_split}
+use Rattle.std.specs.Option.{option_or}
+use Rattle.std.specs.Str.{bytes_eq}
+use Rattle.eac_base.specs.Answers.{◌>>=◌, some_or, ◌gives◌}
+use Rattle.eac_base.specs.Text.{is_word, numbered_lines}
+use Rattle.policy_limits.specs.Lines.{pieces}
+use Rattle.policy_limits.specs.Roster.{Roster, roster_of}
+use Rattle.policy_limits.specs.SetupLine.{line_said, authority_said, plain_said, registration_said, begins_with_kind, is_setup_line}
+use Rattle.policy_limits.specs.SetupText.{with_said, with_line, with_lines, read_setup}
+use Rattle.policy_limits.specs.declared.party.PartyKind.TheVariants as kinds
+use Rattle.policy_limits.specs.declared.setup_line.SetupLine.{SetupLine}
+use Rattle.policy_limits.specs.declared.setup_text.SetupRefusal.{SetupRefusal}
+use Rattle.policy_limits.specs.declared.setup_text.SetupRefusal.TheVariants.{Form}
+use Rattle.eac_cli.specs.Script.{Line, InSetup, Alone, line_of, lines_read, setup_lines, setup_of, events_of, day_after, rule_in_setup, late_rule, setup_rule_behind, broken, Unbroken, IsScript}
+use Rattle.eac_cli.specs.ScriptLaws.{SetupsAreScripts}
+use Rattle.eac_cli.specs.LineGrammar.{event_of}
+use Rattle.eac_cli.specs.declared.event.Event.{Event}
+use Rattle.eac_cli.specs.declared.event.EventLine.{EventLine}
+use Rattle.eac_cli.specs.declared.line_rule.LineRule.{LineRule}
+use Rattle.eac_cli.proofs.Reading.{setup_then, events_more}
+
+-- ---- a line that is taken is a setup line
+
+module _ (r next : Roster) (n : ℕ) where
+  abbrev taken : Option SetupLine → Type 0
+  taken said = (some_or said (Form n) >>= with_said r n) ≡ Ok next
+
+  by_kind : (a b c d : Bool) (w x y z : Option SetupLine) → taken (cond a w (cond b x (cond c y (cond d z None)))) → (a || b || c || d) ≡ true
+  by_kind true b c d w x y z is = refl
+  by_kind false true c d w x y z is = refl
+  by_kind false false true d w x y z is = refl
+  by_kind false false false true w x y z is = refl
+  by_kind false false false false w x y z is = absurd (never is)
+    where
+      never : Err (Form n) ≡ Ok next → ⊥
+      never e = cc
+
+  by_words : (all : Bool) (ps : List (List ℕ)) → taken (cond all (Some ps) None gives line_said r) → begins_with_kind ps ≡ true
+  by_words false ps is = absurd (never is)
+    where
+      never : Err (Form n) ≡ Ok next → ⊥
+      never e = cc
+  by_words true [] is = absurd (never is)
+    where
+      never : Err (Form n) ≡ Ok next → ⊥
+      never e = cc
+  by_words true (kind ∷ rest) is =
+      by_kind (bytes_eq kind (codes "cvca")) (bytes_eq kind (codes "dv")) (bytes_eq kind (codes "terminal")) (bytes_eq kind (codes "register")) (authority_said rest) (plain_said kinds.Dv rest) (plain_said kinds.Terminal rest) (registration_said r rest) is
+
+  is_setup : (text : List ℕ) → with_line r (n, text) ≡ Ok next → is_setup_line text ≡ true
+  is_setup text is = by_words (list_all is_word (pieces text)) (pieces text) is
+
+-- ---- from a setup to a script
+
+-- Behind lines that are a setup without events, these lines go on with it, and no event comes.
+record GoesOn (earlier : List Line) (ls : List (ℕ × List ℕ)) : Type 0 where
+  pub fine : Unbroken earlier (map line_of ls)
+  pub same : setup_lines (map line_of ls) ≡ ls
+  pub no_event : events_of (map line_of ls) ≡ []
+
+module _ (earlier : List Line) (start : Roster) (n : ℕ) (text : List ℕ) (ls : List (ℕ × List ℕ)) (behind : setup_of earlier ≡ Ok start) (no_event : events_of earlier ≡ []) where
+  abbrev one : Line
+  one = (n, InSetup text)
+
+  one_is : is_setup_line text ≡ true → line_of (n, text) ≡ one
+  one_is is = ap (λ b. (n, cond b (InSetup text) (Alone (event_of text)))) is
+
+  breaks_none : (next : Roster) → with_line start (n, text) ≡ Ok next → broken earlier one ≡ None
+  breaks_none next is =
+      ap (λ s. setup_rule_behind s (length (events_of earlier)) (n, text)) behind
+      ∙ ap (λ w. option_or (rule_in_setup w) (late_rule (length (events_of earlier)))) is
+      ∙ ap (λ (es : List EventLine). late_rule (length es)) no_event
+
+  later : (next : Roster) → with_line start (n, text) ≡ Ok next → setup_of (earlier ++ one ∷ []) ≡ Ok next
+  later next is = setup_then earlier (one ∷ []) ∙ ap (λ s. s >>= λ r. with_lines r ((n, text) ∷ [])) behind ∙ ap (λ w. w >>= λ r. with_lines r []) is
+
+  still_none : events_of (earlier ++ one ∷ []) ≡ []
+  still_none = events_more earlier (one ∷ []) ∙ ap (λ (es : List EventLine). es ++ []) no_event
+
+  goes_on_with : (next : Roster) → with_line start (n, text) ≡ Ok next → GoesOn (earlier ++ one ∷ []) ls → GoesOn earlier ((n, text) ∷ ls)
+  goes_on_with next is rest =
+      let same : one ≡ line_of (n, text) = sym (one_is (is_setup start next n text is)) in
+      record {
+        fine = subst (λ l. (broken earlier l ≡ None) × Unbroken (earlier ++ l ∷ []) (map line_of ls)) same (breaks_none next is, rest.fine);
+        same = subst (λ l. setup_lines (l ∷ map line_of ls) ≡ (n, text) ∷ ls) same (ap (λ l. (n, text) ∷ l) rest.same);
+        no_event = subst (λ l. events_of (l ∷ map line_of ls) ≡ []) same rest.no_event;
+      }
+
+  by_line : (w : Result Roster SetupRefusal) (setup : Roster) → with_line start (n, text) ≡ w → (w >>= λ r. with_lines r ls) ≡ Ok setup → ((next : Roster) → with_line start (n, text) ≡ Ok next → with_lines next ls ≡ Ok setup → GoesOn (earlier ++ one ∷ []) ls) → GoesOn earlier ((n, text) ∷ ls)
+  by_line (Ok next) setup is read rest = goes_on_with next is (rest next is read)
+  by_line (Err f) setup is read rest = absurd (never read)
+    where
+      never : Err f ≡ Ok setup → ⊥
+      never e = cc
+
+goes_on : (earlier : List Line) (start setup : Roster) (ls : List (ℕ × List ℕ)) → setup_of earlier ≡ Ok start → events_of earlier ≡ [] → with_lines start ls ≡ Ok setup → GoesOn earlier ls
+goes_on earlier start setup [] behind no_event read = record { fine = tt; same = refl; no_event = refl }
+goes_on earlier start setup ((n, text) ∷ ls) behind no_event read =
+    by_line earlier start n text ls behind no_event (with_line start (n, text)) setup refl read
+    (λ next is more. goes_on (earlier ++ (n, InSetup text) ∷ []) next setup ls (later earlier start n text ls behind no_event next is) (still_none earlier start n text ls behind no_event) more)
+
+-- ---- from a script to a setup
+
+module _ (earlier : List Line) (n : ℕ) (text : List ℕ) (ls : List (ℕ × List ℕ)) where
+  no_other : (setup : Bool) (read : Result Event LineRule) → broken earlier (n, cond setup (InSetup text) (Alone read)) ≡ None → events_of ((n, cond setup (InSetup text) (Alone read)) ∷ map line_of ls) ≡ [] → (events_of (map line_of ls) ≡ [] → setup_lines (map line_of ls) ≡ ls) → setup_lines ((n, cond setup (InSetup text) (Alone read)) ∷ map line_of ls) ≡ (n, text) ∷ ls
+  no_other true read fine none rest = ap (λ l. (n, text) ∷ l) (rest none)
+  no_other false (Ok event) fine none rest = absurd (never none)
+    where
+      never : record { line = n; event = event } ∷ events_of (map line_of ls) ≡ [] → ⊥
+      never e = cc
+  no_other false (Err rule) fine none rest = absurd (never fine)
+    where
+      never : Some rule ≡ None → ⊥
+      never e = cc
+
+all_setup : (earlier : List Line) (ls : List (ℕ × List ℕ)) → Unbroken earlier (map line_of ls) → events_of (map line_of ls) ≡ [] → setup_lines (map line_of ls) ≡ ls
+all_setup earlier [] fine none = refl
+all_setup earlier ((n, text) ∷ ls) fine none =
+    no_other earlier n text ls (is_setup_line text) (event_of text) fine.0 none (all_setup (earlier ++ line_of (n, text) ∷ []) ls fine.1)
+
+pub setups_are_scripts : SetupsAreScripts
+setups_are_scripts text setup = (script, setup_read)
+  where
+    script : read_setup text ≡ Ok setup → IsScript text setup []
+    script read =
+        let on = goes_on [] (roster_of [] []) setup (numbered_lines text) refl refl read in
+        record { fine = on.fine; setup_is = ap (with_lines (roster_of [] [])) on.same ∙ read; events_are = sym on.no_event }
+
+    setup_read : IsScript text setup [] → read_setup text ≡ Ok setup
+    setup_read s =
+        ap (with_lines (roster_of [] [])) (sym (all_setup [] (numbered_lines text) s.fine (sym s.events_are))) ∙ s.setup_is

@@ -1,0 +1,394 @@
+// One request at an issuing desk.
+ghost use Rattle.std.specs.Prelude.{◌≡◌, ◌∷◌, [], IfSome};
+ghost use Rattle.eac_base.specs.Telling.{Told};
+ghost use Rattle.keeper.specs.Rows.{IsStorable};
+ghost use Rattle.keeper.specs.declared.rows.Part.TheVariants as part;
+ghost use Rattle.cvc_grammar.specs.Request.{IsRequest};
+ghost use Rattle.issue_core.specs.Rules.{Case};
+ghost use Rattle.issue_core.specs.IssueRows.{AreReadable};
+ghost use Rattle.issue_core.specs.Looks.{KeeperCaused};
+ghost use Rattle.issue_core.specs.Issues.{unreadable_answer, kept_answer, added_answer, IssueCause, StaysTrue, Enters, Serves, outcome_of, case_of};
+ghost use Rattle.issue_core.specs.IssueSteps.{Ready, Allowed, Passed, Looked, Fresh, WasRead, ByLists};
+
+use crate::deciding::{Seen, first_of_seen};
+use crate::looking::{gather, look};
+use crate::making::{Made, make};
+use crate::signing_row::Signing;
+use crate::verdicts::ask;
+use crate::{IssueFault, Rule};
+use cv_dates::Day;
+use cvc_grammar::{ReadCvc, Request, read_request};
+use eac_base::{Octets, is_same};
+use keeper::{IssuedPart, KeepRefusal, Keeper, Part, Row, Settled, Table};
+use policy_limits::{Registration, Setup, minimum_days, validity};
+use signature_provider::SignatureProvider;
+use std::alloc::Global;
+
+/// What an issuing desk answers to a request.
+#[derive(Debug, Drop)]
+pub enum Answer {
+    /// The certificate is issued now.
+    Issued(Octets),
+    /// This certificate was issued to the same request.
+    Kept(Octets),
+    /// The first rule that is broken.
+    Refused(Rule),
+}
+
+fn unreadable(refusal: ReadCvc) -> Result<Answer, IssueFault>
+    ensures { result ≡ unreadable_answer refusal }
+{
+    match refusal {
+        ReadCvc::Refused(refusal) => Ok(Answer::Refused(Rule::Syntax(refusal))),
+        ReadCvc::NoMemory => Err(IssueFault::NoMemory),
+    }
+}
+
+// The same bytes are kept with their certificate, others are refused.
+fn answer_kept(row: Row, request: &[u8]) -> Answer
+    ensures { result ≡ kept_answer row.part request.now }
+{
+    let Row {
+        desk: _,
+        reference: _,
+        part,
+    } = row;
+    let Part::Issued(issued) = part else {
+        return Answer::Refused(Rule::Used);
+    };
+    let IssuedPart {
+        request: kept,
+        key: _,
+        settled,
+    } = issued;
+    if is_same(kept.as_slice(), request) {
+        Answer::Kept(settled.certificate)
+    } else {
+        Answer::Refused(Rule::Used)
+    }
+}
+
+// What is answered to an adding. A keeper that tells its rows is never full nor has the key where one has just looked;
+// the answer of another one is passed on as the rule that it says.
+fn answer_added(
+    added: Result<(), KeepRefusal>,
+    certificate: Octets,
+    request: &[u8],
+) -> Result<Answer, IssueFault>
+    ensures { result ≡ added_answer added certificate request.now }
+{
+    match added {
+        Ok(()) => Ok(Answer::Issued(certificate)),
+        Err(KeepRefusal::Twice(kept)) => Ok(answer_kept(kept, request)),
+        Err(KeepRefusal::Full) => Ok(Answer::Refused(Rule::Full)),
+        Err(KeepRefusal::Failed) => Err(IssueFault::KeeperFault),
+        Err(KeepRefusal::Absent) => Err(IssueFault::NoMemory),
+        Err(KeepRefusal::NoMemory) => Err(IssueFault::NoMemory),
+    }
+}
+
+// Adds the row: the last outside call.
+fn enter<B: Keeper>(
+    alloc: Global,
+    row: &Row,
+    certificate: Octets,
+    request: &[u8],
+    keeper: &mut B,
+) -> Result<Answer, IssueFault>
+    requires { IsStorable row.now }
+    ensures told { Told (B.rows keeper.old) (B.rows keeper.new) (λ before after. Enters before after row.now certificate result) }
+    ensures cause { KeeperCaused (B.faults keeper.old) (B.faults keeper.new) result }
+{
+    let added = keeper.add(alloc, row);
+    answer_added(added, certificate, request)
+}
+
+fn issued_row(desk: u32, read: Request, request: Octets, settled: Settled) -> Row
+    ensures { result ≡ record { desk = desk; reference = read.body.holder; part = part.Issued (record { request = request; key = read.body.key; settled = settled }) } }
+{
+    let Request {
+        body,
+        inner: _,
+        outer: _,
+    } = read;
+    Row {
+        desk,
+        reference: body.holder,
+        part: Part::Issued(IssuedPart {
+            request,
+            key: body.key,
+            settled,
+        }),
+    }
+}
+
+// The certificate is made, then its row is added.
+fn serve_made<B: Keeper, P: SignatureProvider>(
+    alloc: Global,
+    desk: u32,
+    request: &[u8],
+    read: Request,
+    registration: &Registration,
+    signing: &Signing,
+    days: (Day, Day),
+    keeper: &mut B,
+    provider: &mut P,
+) -> Result<Answer, IssueFault>
+    requires { IsRequest read request.now }
+    ensures told { Told (B.rows keeper.old) (B.rows keeper.new) (λ before after. (c : Case) → c.desk ≡ desk → c.bytes ≡ request.now → Ready c read registration.now signing.now days before →
+        Serves (P.says provider.new) (P.holds provider.old) c (outcome_of result) (B.faults keeper.old, B.faults keeper.new) (P.faults provider.old, P.faults provider.new) before after) }
+    ensures cause { IssueCause (P.holds provider.old) (B.faults keeper.old, B.faults keeper.new) (P.faults provider.old, P.faults provider.new) result }
+    ensures provider { StaysTrue (P.says provider.old) (P.says provider.new) (P.holds provider.old) (P.holds provider.new) (P.signed provider.old) (P.signed provider.new) }
+{
+    let Ok(kept) = Octets::from_slice(alloc, request) else {
+        return Err(IssueFault::NoMemory);
+    };
+    match make(alloc, &read, registration, signing, days, provider) {
+        Err(fault) => Err(fault),
+        Ok(made) => {
+            let Made { text, settled } = made;
+            let row = issued_row(desk, read, kept, settled);
+            enter(alloc, &row, text, request, keeper)
+        }
+    }
+}
+
+// No rule is broken: the two tests come again, for what they give.
+fn serve_due<B: Keeper, P: SignatureProvider>(
+    alloc: Global,
+    desk: u32,
+    day: Day,
+    request: &[u8],
+    read: Request,
+    registration: &Registration,
+    signing: &Option<Signing>,
+    keeper: &mut B,
+    provider: &mut P,
+) -> Result<Answer, IssueFault>
+    requires { IsRequest read request.now }
+    ensures told { Told (B.rows keeper.old) (B.rows keeper.new) (λ before after. (c : Case) → c.desk ≡ desk → c.day ≡ day → c.bytes ≡ request.now → Allowed c read registration.now signing.now before →
+        Serves (P.says provider.new) (P.holds provider.old) c (outcome_of result) (B.faults keeper.old, B.faults keeper.new) (P.faults provider.old, P.faults provider.new) before after) }
+    ensures cause { IssueCause (P.holds provider.old) (B.faults keeper.old, B.faults keeper.new) (P.faults provider.old, P.faults provider.new) result }
+    ensures provider { StaysTrue (P.says provider.old) (P.says provider.new) (P.holds provider.old) (P.holds provider.new) (P.signed provider.old) (P.signed provider.new) }
+{
+    match signing {
+        None => Ok(Answer::Refused(Rule::Authority)),
+        Some(signing) => {
+            match validity(
+                day,
+                registration.days,
+                signing.settled.until,
+                minimum_days(registration.role),
+            ) {
+                None => Ok(Answer::Refused(Rule::Short)),
+                Some(days) => serve_made(
+                    alloc,
+                    desk,
+                    request,
+                    read,
+                    registration,
+                    signing,
+                    days,
+                    keeper,
+                    provider,
+                ),
+            }
+        }
+    }
+}
+
+// No rule up to 12 is broken: the provider is asked for its verdicts.
+fn serve_allowed<B: Keeper, P: SignatureProvider>(
+    alloc: Global,
+    desk: u32,
+    day: Day,
+    request: &[u8],
+    read: Request,
+    registration: &Registration,
+    seen: &Seen,
+    keeper: &mut B,
+    provider: &mut P,
+) -> Result<Answer, IssueFault>
+    requires { IsRequest read request.now }
+    ensures told { Told (B.rows keeper.old) (B.rows keeper.new) (λ before after. (c : Case) → c.desk ≡ desk → c.day ≡ day → c.bytes ≡ request.now → Passed (P.says provider.old) c read registration.now seen.now before →
+        Serves (P.says provider.new) (P.holds provider.old) c (outcome_of result) (B.faults keeper.old, B.faults keeper.new) (P.faults provider.old, P.faults provider.new) before after) }
+    ensures cause { IssueCause (P.holds provider.old) (B.faults keeper.old, B.faults keeper.new) (P.faults provider.old, P.faults provider.new) result }
+    ensures provider { StaysTrue (P.says provider.old) (P.says provider.new) (P.holds provider.old) (P.holds provider.new) (P.signed provider.old) (P.signed provider.new) }
+{
+    match ask(alloc, &read, &seen.vouching, provider) {
+        Err(fault) => Err(fault),
+        Ok(Some(rule)) => Ok(Answer::Refused(rule)),
+        Ok(None) => serve_due(
+            alloc,
+            desk,
+            day,
+            request,
+            read,
+            registration,
+            &seen.signing,
+            keeper,
+            provider,
+        ),
+    }
+}
+
+// The holder is registered, and its number is new.
+fn serve_registered<B: Keeper, P: SignatureProvider>(
+    alloc: Global,
+    desk: u32,
+    day: Day,
+    request: &[u8],
+    read: Request,
+    registration: &Registration,
+    keeper: &mut B,
+    provider: &mut P,
+) -> Result<Answer, IssueFault>
+    requires { IsRequest read request.now }
+    ensures told { Told (B.rows keeper.old) (B.rows keeper.new) (λ before after. (c : Case) → c.desk ≡ desk → c.day ≡ day → c.bytes ≡ request.now → Looked (P.says provider.old) c read registration.now before →
+        Serves (P.says provider.new) (P.holds provider.old) c (outcome_of result) (B.faults keeper.old, B.faults keeper.new) (P.faults provider.old, P.faults provider.new) before after) }
+    ensures cause { IssueCause (P.holds provider.old) (B.faults keeper.old, B.faults keeper.new) (P.faults provider.old, P.faults provider.new) result }
+    ensures provider { StaysTrue (P.says provider.old) (P.says provider.new) (P.holds provider.old) (P.holds provider.new) (P.signed provider.old) (P.signed provider.new) }
+{
+    match gather(alloc, desk, day, &read, registration, keeper) {
+        Err(fault) => Err(fault),
+        Ok(seen) => match first_of_seen(day, &read, registration, &seen) {
+            Some(rule) => Ok(Answer::Refused(rule)),
+            None => serve_allowed(
+                alloc,
+                desk,
+                day,
+                request,
+                read,
+                registration,
+                &seen,
+                keeper,
+                provider,
+            ),
+        },
+    }
+}
+
+// The request's number is new.
+fn serve_new<B: Keeper, P: SignatureProvider>(
+    alloc: Global,
+    setup: &Setup,
+    desk: u32,
+    day: Day,
+    request: &[u8],
+    read: Request,
+    keeper: &mut B,
+    provider: &mut P,
+) -> Result<Answer, IssueFault>
+    requires { IsRequest read request.now }
+    ensures told { Told (B.rows keeper.old) (B.rows keeper.new) (λ before after. (c : Case) → c.setup ≡ setup.now → c.desk ≡ desk → c.day ≡ day → c.bytes ≡ request.now → Fresh (P.says provider.old) c read before →
+        Serves (P.says provider.new) (P.holds provider.old) c (outcome_of result) (B.faults keeper.old, B.faults keeper.new) (P.faults provider.old, P.faults provider.new) before after) }
+    ensures cause { IssueCause (P.holds provider.old) (B.faults keeper.old, B.faults keeper.new) (P.faults provider.old, P.faults provider.new) result }
+    ensures provider { StaysTrue (P.says provider.old) (P.says provider.new) (P.holds provider.old) (P.holds provider.new) (P.signed provider.old) (P.signed provider.new) }
+{
+    let holder = read.body.holder.holder();
+    match setup.registration(desk, &holder) {
+        None => Ok(Answer::Refused(Rule::Holder)),
+        Some(registration) => {
+            if registration.suspended {
+                Ok(Answer::Refused(Rule::Holder))
+            } else {
+                serve_registered(
+                    alloc,
+                    desk,
+                    day,
+                    request,
+                    read,
+                    registration,
+                    keeper,
+                    provider,
+                )
+            }
+        }
+    }
+}
+
+// The request was read.
+fn serve_read<B: Keeper, P: SignatureProvider>(
+    alloc: Global,
+    setup: &Setup,
+    desk: u32,
+    day: Day,
+    request: &[u8],
+    read: Request,
+    keeper: &mut B,
+    provider: &mut P,
+) -> Result<Answer, IssueFault>
+    requires { IsRequest read request.now }
+    ensures told { Told (B.rows keeper.old) (B.rows keeper.new) (λ before after. (c : Case) → c.setup ≡ setup.now → c.desk ≡ desk → c.day ≡ day → c.bytes ≡ request.now → WasRead (P.says provider.old) c read before →
+        Serves (P.says provider.new) (P.holds provider.old) c (outcome_of result) (B.faults keeper.old, B.faults keeper.new) (P.faults provider.old, P.faults provider.new) before after) }
+    ensures cause { IssueCause (P.holds provider.old) (B.faults keeper.old, B.faults keeper.new) (P.faults provider.old, P.faults provider.new) result }
+    ensures provider { StaysTrue (P.says provider.old) (P.says provider.new) (P.holds provider.old) (P.holds provider.new) (P.signed provider.old) (P.signed provider.new) }
+{
+    match look(alloc, Table::Issued, desk, &read.body.holder, keeper) {
+        Err(fault) => Err(fault),
+        Ok(Some(row)) => Ok(answer_kept(row, request)),
+        Ok(None) => serve_new(alloc, setup, desk, day, request, read, keeper, provider),
+    }
+}
+
+// What is owed of the lists stands in `ByLists`, in which no call is named.
+fn serve<B: Keeper, P: SignatureProvider>(
+    alloc: Global,
+    setup: &Setup,
+    desk: u32,
+    day: Day,
+    request: &[u8],
+    keeper: &mut B,
+    provider: &mut P,
+) -> Result<Answer, IssueFault>
+    ensures told { Told (B.rows keeper.old) (B.rows keeper.new) (λ before after.
+        ByLists (P.says provider.old) (case_of (P.says provider.old) setup.now desk day request.now before) before →
+        Serves (P.says provider.new) (P.holds provider.old) (case_of (P.says provider.old) setup.now desk day request.now before) (outcome_of result)
+        (B.faults keeper.old, B.faults keeper.new) (P.faults provider.old, P.faults provider.new) before after) }
+    ensures cause { IssueCause (P.holds provider.old) (B.faults keeper.old, B.faults keeper.new) (P.faults provider.old, P.faults provider.new) result }
+    ensures provider { StaysTrue (P.says provider.old) (P.says provider.new) (P.holds provider.old) (P.holds provider.new) (P.signed provider.old) (P.signed provider.new) }
+{
+    match read_request(alloc, request) {
+        Err(refusal) => unreadable(refusal),
+        Ok(read) => serve_read(alloc, setup, desk, day, request, read, keeper, provider),
+    }
+}
+
+/// Serves one request at an issuing desk: a country authority or a document verifier.
+///
+/// The first of the fourteen rules of [`Rule`] that is broken is answered; a request that was served before is `Kept` with
+/// its certificate before the rules 3 to 14 are looked at. Where no rule is broken the certificate that is due is signed
+/// with the key of the desk's own row, its row is added, and it is answered: there is one keeper write, and it is the last
+/// outside call. The provider is asked for its verdict on the inner signature where no rule up to 12 is broken, and on the
+/// outer one where it said yes to the inner.
+///
+/// # Errors
+///
+/// `KeeperFault` and `ProviderFault` only where that count rose in this call or stands at its last value; `NoKey` exactly
+/// where no rule is broken and the provider doesn't hold the key of the row with that reference, which is the one to sign
+/// with; and `NoMemory`. After a fault of the keeper or want of memory the row may stand, and then the same request is
+/// answered with it.
+///
+/// A keeper that doesn't tell its rows may answer to the adding that the key is there, which is answered as `Kept` or
+/// `Used` by its row's bytes, or that the table is full, which is rule 12.
+pub fn issue<B: Keeper, P: SignatureProvider>(
+    alloc: Global,
+    setup: &Setup,
+    desk: u32,
+    day: Day,
+    request: &[u8],
+    keeper: &mut B,
+    provider: &mut P,
+) -> Result<Answer, IssueFault>
+    // Where the rows are told after the call and were readable before it, it was one delivery of the desk's story, with the
+    // desk's issued rows before it as the earlier entries and with the provider's verdicts at the call.
+    ensures delivery { Told (B.rows keeper.old) (B.rows keeper.new) (λ before after. AreReadable before →
+        Serves (P.says provider.new) (P.holds provider.old) (case_of (P.says provider.old) setup.now desk day request.now before) (outcome_of result)
+        (B.faults keeper.old, B.faults keeper.new) (P.faults provider.old, P.faults provider.new) before after) }
+    // For every keeper and provider, the counts haven't fallen, and a fault came only where its count rose or a key is
+    // missing; the provider says and holds what it did, and stays honest.
+    ensures cause { IssueCause (P.holds provider.old) (B.faults keeper.old, B.faults keeper.new) (P.faults provider.old, P.faults provider.new) result }
+    ensures provider { StaysTrue (P.says provider.old) (P.says provider.new) (P.holds provider.old) (P.holds provider.new) (P.signed provider.old) (P.signed provider.new) }
+{
+    serve(alloc, setup, desk, day, request, keeper, provider)
+}
