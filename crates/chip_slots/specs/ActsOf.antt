@@ -37,7 +37,7 @@ module _ (tells : Type 0) (past told : ℕ → Standing) (from to : ℕ) where
   IsActOf c (Err (refusal.Syntax e)) done c' = done ≡ Some (c'.state, c'.session)
   IsActOf c (Err (refusal.Refused k)) done c' = done ≡ Some (c'.state, c'.session)
   IsActOf c (Err refusal.DiskFault) done c' = IsOpenAct c done
-  IsActOf c (Err refusal.NoChip) done c' = Unit {0}
-  IsActOf c (Err refusal.ProviderFault) done c' = Unit {0}
-  IsActOf c (Err refusal.NeedsOpen) done c' = Unit {0}
-  IsActOf c (Err refusal.Worn) done c' = Unit {0}
+  IsActOf c (Err refusal.NoChip) _ c' = Unit {0}
+  IsActOf c (Err refusal.ProviderFault) _ c' = Unit {0}
+  IsActOf c (Err refusal.NeedsOpen) _ c' = Unit {0}
+  IsActOf c (Err refusal.Worn) _ c' = Unit {0}
