@@ -1,11 +1,10 @@
 -- Causes of faults, and what stays true of a provider, over the steps of a call.
-use Rattle.std.proofs.Common.{◌≡◌, ℕ, List, Bool, true, false, ◌≤◌, arith, sym, subst}
+use Rattle.std.proofs.Common.{◌≡◌, ℕ, List, ◌≤◌, arith, sym, subst}
 use Rattle.std.specs.Prelude.{Result, Ok, Err, IfErr}
-use Rattle.eac_base.specs.Causes.{Rose}
 use Rattle.signature_provider.specs.Provider.{PublicKey, Says, Holds, Signed}
 use Rattle.issue_core.specs.declared.serving.IssueFault.{IssueFault}
 use Rattle.issue_core.specs.declared.serving.IssueFault.TheVariants as fault
-use Rattle.issue_core.specs.Issues.{MissingKey, FaultCause, IssueCause, MakeCause, VerdictCause, StaysTrue}
+use Rattle.issue_core.specs.Issues.{MissingKey, FaultCause, IssueCause, MakeCause, StaysTrue}
 use Rattle.issue_core.proofs.Served.{rose_earlier}
 
 unmade : (holds : Holds) (key : PublicKey) (reference : List ℕ) (k p : ℕ × ℕ) (f : IssueFault) → MakeCause f p.0 p.1 (holds key) reference → FaultCause f holds k p

@@ -1,8 +1,8 @@
 -- Stories of an issuing desk over calls.
 use Rattle.std.proofs.Common.{◌≡◌, ℕ, List, [], ◌∷◌, ◌++◌, Option, Some, None, Bool, true, false, cond, refl, sym, ◌∙◌, ap, subst, append_assoc, nat_eq}
 use Rattle.std.proofs.lemmas.Bool.{eq-eqb}
-use Rattle.std.specs.Prelude.{Result, Ok, Err, IfSome, option_map, filter}
-use Rattle.signature_provider.specs.Provider.{Says, Holds, SaysMore, public_key}
+use Rattle.std.specs.Prelude.{Result, Ok, Err, IfSome, option_map}
+use Rattle.signature_provider.specs.Provider.{Says, SaysMore, public_key}
 use Rattle.cvc_grammar.specs.declared.request.Request.{Request}
 use Rattle.cvc_grammar.specs.declared.certificate.Cert.{Cert}
 use Rattle.cvc_grammar.specs.declared.certificate.CertBody.{CertBody}
@@ -16,11 +16,11 @@ use Rattle.issue_core.specs.Ledger.{Desk, Outcome, Issued, Kept, Refused, Faulte
 use Rattle.issue_core.specs.Story.{Adds, Tells, Decides, answer_due}
 use Rattle.issue_core.specs.Struck.{bare}
 use Rattle.issue_core.specs.Asked.{request_of, cert_of, body_in, body_of, cert_message}
-use Rattle.issue_core.specs.Rules.{Case, Signer, signer, first_rule}
+use Rattle.issue_core.specs.Rules.{Case, Signer, signer}
 use Rattle.issue_core.specs.Due.{due, due_of}
-use Rattle.issue_core.specs.Issuing.{issuing, is_signed, signed_in, signed_as, Fault, IssueEntries, IssueDelivery, IssuingStory}
+use Rattle.issue_core.specs.Issuing.{issuing, is_signed, signed_in, signed_as, Fault, IssueEntries}
 use Rattle.issue_core.specs.IssueRows.{entry_in, entries_in, entries_at, row_for, left_row, settled_of}
-use Rattle.issue_core.specs.Issues.{Serves, delivery, is_held}
+use Rattle.issue_core.specs.Issues.{delivery, is_held}
 use Rattle.issue_core.specs.IssueLaws.{CallsGoOn, KeysAreNeeded}
 use Rattle.issue_core.proofs.StoryLaws.{story_more, story_later, entries_more}
 

@@ -1,15 +1,14 @@
 -- What the issued rows of a desk say of a request, on plain lists.
-use Rattle.std.proofs.Common.{◌≡◌, ◌≢◌, ◌==◌, ℕ, ◌+◌, suc, List, [], ◌∷◌, ◌++◌, length, Option, Some, None, Bool, true, false, cond, refl, sym, ◌∙◌, ap, subst, arith, true≢false}
+use Rattle.std.proofs.Common.{◌≡◌, ◌==◌, ℕ, ◌+◌, suc, List, [], ◌∷◌, ◌++◌, length, Option, Some, None, Bool, true, false, cond, refl, sym, ◌∙◌, ap, subst, arith, true≢false}
 use Rattle.std.proofs.lemmas.Bool.{eqb-true}
 use Rattle.std.proofs.lemmas.Bool.Decides.{nat_tests}
 use Rattle.std.proofs.lemmas.List.Sums.{sum_by-cons}
-use Rattle.std.specs.Prelude.{Result, Ok, Err, ◌&&◌, ◌||◌, not, is_none, filter, count_by, nat_lt, nat_eq}
+use Rattle.std.specs.Prelude.{Err, ◌&&◌, ◌||◌, not, filter, count_by, nat_lt, nat_eq}
 use Rattle.std.specs.List.{find, list_any}
 use Rattle.std.specs.Str.{bytes_eq}
 use Rattle.eac_base.proofs.EqualBytes.{bytes_eq-true, bytes_eq-self}
 use Rattle.holder_reference.specs.Reference.{holder_part}
 use Rattle.cvc_grammar.specs.declared.request.Request.{Request}
-use Rattle.cvc_grammar.specs.declared.certificate.CertBody.{CertBody}
 use Rattle.cvc_grammar.specs.declared.refusal.CvcRefusal.{CvcRefusal}
 use Rattle.keeper.specs.declared.rows.Row.{Row}
 use Rattle.keeper.specs.declared.rows.IssuedPart.{IssuedPart}
@@ -18,13 +17,13 @@ use Rattle.keeper.specs.declared.rows.Part.TheVariants as part
 use Rattle.keeper.specs.declared.rows.Settled.{Settled}
 use Rattle.keeper.specs.declared.rows.Table.{Table}
 use Rattle.keeper.specs.declared.rows.Table.TheVariants as table
-use Rattle.keeper.specs.Rows.{table_of, kind_of, same_table, is_of, has_key, is_of_holder, row_at, rows_of, kept_row, UniqueKeys}
+use Rattle.keeper.specs.Rows.{table_of, kind_of, same_table, is_of, is_of_holder, row_at, rows_of, kept_row, UniqueKeys}
 use Rattle.keeper.proofs.UniqueRows.{unique_parts, and_parts}
-use Rattle.issue_core.specs.Ledger.{faces, kept_for, IsUnused}
-use Rattle.issue_core.specs.Asked.{request_of, number_in, number_of, cert_of, body_in, body_of}
+use Rattle.issue_core.specs.Ledger.{faces, kept_for}
+use Rattle.issue_core.specs.Asked.{request_of, number_in, number_of, body_in, body_of}
 use Rattle.issue_core.specs.Rules.{Issue, Voucher, has_same_holder, has_expired, issued_voucher, first_issued}
 use Rattle.issue_core.specs.Issuing.{issuing}
-use Rattle.issue_core.specs.IssueRows.{entry_in, entries_in, issued_rows, has_reference, IsIssued, AreIssued, IsReadable, ReadablePart, AreReadable, NoEntry}
+use Rattle.issue_core.specs.IssueRows.{entry_in, entries_in, has_reference, IsIssued, AreIssued, IsReadable, ReadablePart, AreReadable, NoEntry}
 use Rattle.issue_core.specs.Looks.{row_voucher, issued_for, until_in, is_live_row}
 
 -- ---- the rows of a desk in a table

@@ -16,3 +16,4 @@ pub mod IssuedLists
 pub mod ListsOwe
 pub mod IssueStories
 pub mod Caused
+pub mod Answering

@@ -1,6 +1,6 @@
 -- What readable rows with unique keys owe a call of an issuing desk.
-use Rattle.std.proofs.Common.{◌≡◌, ◌==◌, ℕ, List, [], ◌∷◌, length, Option, Some, None, Bool, true, false, cond, refl, sym, ◌∙◌, ap, subst}
-use Rattle.std.specs.Prelude.{Result, Ok, Err, ◌&&◌, not, find, IfSome}
+use Rattle.std.proofs.Common.{◌≡◌, ◌==◌, ℕ, List, [], ◌∷◌, Option, Some, None, Bool, true, false, cond, refl, sym, ◌∙◌, ap, subst}
+use Rattle.std.specs.Prelude.{Ok, not, find, IfSome}
 use Rattle.std.specs.List.{cons_option}
 use Rattle.std.specs.Str.{bytes_eq}
 use Rattle.eac_base.specs.Telling.{Told}
@@ -24,13 +24,13 @@ use Rattle.issue_core.specs.declared.deciding.Seen.{Seen}
 use Rattle.issue_core.specs.declared.issuing.Answer.TheVariants as answer
 use Rattle.issue_core.specs.Ledger.{faces}
 use Rattle.issue_core.specs.Asked.{request_of, number_in}
-use Rattle.issue_core.specs.Rules.{Case, Issue, Signer, signer_of, settled_as, signers, named, Voucher, ca_voucher, first_ca, or_else, is_home, registered, first_of, rules, is_broken}
+use Rattle.issue_core.specs.Rules.{Case, Issue, Signer, signer_of, settled_as, signers, named, Voucher, ca_voucher, first_ca, or_else, is_home, first_of, rules, is_broken}
 use Rattle.issue_core.specs.Issuing.{issuing}
 use Rattle.issue_core.specs.IssueRows.{entries_at, has_reference, AreIssued, AreReadable, NoEntry}
 use Rattle.issue_core.specs.Looks.{signer_at, signing_in, issued_for, ca_in, outer_in, IsSeen}
 use Rattle.issue_core.specs.SeenRules.{outer_said, voucher_for, Agrees}
 use Rattle.issue_core.specs.Issues.{case_of, bare_case, inner_said, outer_bit, kept_answer}
-use Rattle.issue_core.specs.IssueSteps.{Breaks, Fresh, Again, WasRead, ByLists}
+use Rattle.issue_core.specs.IssueSteps.{Fresh, Again, ByLists}
 use Rattle.issue_core.proofs.IssuedLists.{row_is, AreApart, apart, are_issued, no_entry, unread_lacks, FoundEntry, found_entry, count_entries, held_entries, live_entries, issued_vouches}
 use Rattle.issue_core.proofs.LookedBy.{looked_where_owed}
 

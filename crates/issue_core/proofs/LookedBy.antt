@@ -1,27 +1,24 @@
 -- What was seen decides: the record before the looks follows from the agreement of the lists.
-use Rattle.std.proofs.Common.{◌≡◌, ℕ, ◌<◌, List, length, Option, Some, None, Bool, true, false, cond, refl, sym, ◌∙◌, ap, subst, arith}
+use Rattle.std.proofs.Common.{◌≡◌, ℕ, ◌<◌, length, Option, Some, None, Bool, true, false, cond, refl, sym, ◌∙◌, ap, subst, arith}
 use Rattle.std.proofs.lemmas.Bool.Decides.{nat_tests}
-use Rattle.std.specs.Prelude.{Result, Ok, Err, is_none, nat_le, option_and_then}
-use Rattle.cvc_grammar.specs.declared.request.Request.{Request}
+use Rattle.std.specs.Prelude.{is_none, nat_le, option_and_then}
 use Rattle.policy_limits.specs.Validity.{validity, minimum_days}
-use Rattle.policy_limits.specs.declared.registration.Registration.{Registration}
-use Rattle.keeper.specs.declared.rows.Row.{Row}
 use Rattle.keeper.specs.declared.rows.Table.TheVariants as table
 use Rattle.keeper.specs.Rows.{rows_of, most_rows}
 use Rattle.issue_core.specs.declared.rule.Rule.{Rule}
 use Rattle.issue_core.specs.declared.rule.Rule.TheVariants as rule
 use Rattle.issue_core.specs.declared.deciding.Seen.{Seen}
 use Rattle.issue_core.specs.Ledger.{faces}
-use Rattle.issue_core.specs.Rules.{Case, Signer, signer, registered, first_rule}
-use Rattle.issue_core.specs.Due.{due, due_of, due_for, due_body}
+use Rattle.issue_core.specs.Rules.{signer, first_rule}
+use Rattle.issue_core.specs.Due.{due_of, due_for, due_body}
 use Rattle.issue_core.specs.Issuing.{issuing}
 use Rattle.issue_core.specs.IssueRows.{entries_at}
 use Rattle.issue_core.specs.Looks.{IsSeen}
 use Rattle.issue_core.specs.SeenRules.{first_seen, in_order, is_short, outer_said, verdict_rule, or_rule}
-use Rattle.issue_core.specs.IssueSteps.{Ready, Allowed, Breaks, Passed, Looked, Owed, LookedWhereOwed}
+use Rattle.issue_core.specs.IssueSteps.{Allowed, LookedWhereOwed}
 use Rattle.issue_core.proofs.RulesSeen.{rules_by_seen}
 
-past : (b : Bool) (k : Rule) (x : Option Rule) → cond b (Some k) x ≡ None → (b ≡ false) × (x ≡ None)
+pub past : (b : Bool) (k : Rule) (x : Option Rule) → cond b (Some k) x ≡ None → (b ≡ false) × (x ≡ None)
 past true k x h = absurd (cc)
 past false k x h = (refl, h)
 
@@ -30,7 +27,7 @@ pub record NoneBroken (a s f : Bool) : Type 0 where
   pub short : s ≡ false
   pub full : f ≡ false
 
-none_broken : (a e d m u x l s f : Bool) → in_order a e d m u x l s f ≡ None → NoneBroken a s f
+pub none_broken : (a e d m u x l s f : Bool) → in_order a e d m u x l s f ≡ None → NoneBroken a s f
 none_broken a e d m u x l s f h =
     let p1 = past a rule.Authority _ h in
     let p2 = past e rule.AuthorityExpired _ p1.1 in

@@ -1,11 +1,10 @@
 -- The making of the certificate that is due.
-use Rattle.std.proofs.Common.{◌≡◌, ℕ, ◌≤◌, Bool, true, List, [], ◌++◌, length, refl, sym, ap, ◌∙◌, subst, arith}
+use Rattle.std.proofs.Common.{◌≡◌, ℕ, ◌≤◌, List, length, refl, sym, subst}
 use Rattle.std.specs.Prelude.{IsTrue}
 use Rattle.holder_reference.specs.Reference.{is_reference}
 use Rattle.signature_provider.specs.Provider.{Says, Holds, public_key}
 use Rattle.cvc_grammar.specs.declared.request.Request.{Request}
 use Rattle.cvc_grammar.specs.declared.certificate.CertBody.{CertBody}
-use Rattle.cvc_grammar.specs.declared.certificate.Cert.{Cert}
 use Rattle.cvc_grammar.specs.Request.{IsLegalRequest}
 use Rattle.cvc_grammar.specs.Certificate.{IsLegalBody, IsLegalCert, IsCert, is_signature, longest_cert}
 use Rattle.policy_limits.specs.declared.registration.Registration.{Registration}

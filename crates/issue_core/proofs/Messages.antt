@@ -1,17 +1,15 @@
 -- What is signed, word by word.
-use Rattle.std.proofs.Common.{◌≡◌, ℕ, ◌≤◌, Bool, true, List, [], ◌++◌, length, refl, sym, ap, ◌∙◌, subst, arith}
-use Rattle.std.specs.Prelude.{Result, Ok, Err, IsTrue}
+use Rattle.std.proofs.Common.{◌≡◌, ℕ, Bool, true, List, [], ◌++◌, refl, sym, ap, ◌∙◌}
+use Rattle.std.specs.Prelude.{Ok, IsTrue}
 use Rattle.std.proofs.lemmas.List.{append-nil}
 use Rattle.tlv_core.specs.Object.{object}
-use Rattle.signature_provider.specs.declared.key.Key.{Key}
 use Rattle.signature_provider.specs.Provider.{PublicKey, Says, Holds, public_key}
 use Rattle.cvc_grammar.specs.declared.request.Request.{Request}
 use Rattle.cvc_grammar.specs.declared.request.Outer.{Outer}
 use Rattle.cvc_grammar.specs.declared.certificate.CertBody.{CertBody}
 use Rattle.cvc_grammar.specs.declared.certificate.Cert.{Cert}
-use Rattle.cvc_grammar.specs.declared.refusal.CvcRefusal.{CvcRefusal}
 use Rattle.cvc_grammar.specs.Request.{request_body_text, bare_text}
-use Rattle.cvc_grammar.specs.Certificate.{body_text, cert_text, is_signature, IsCert}
+use Rattle.cvc_grammar.specs.Certificate.{body_text, is_signature, IsCert}
 use Rattle.cvc_grammar.specs.ReadingOrder.{read_cert}
 use Rattle.cvc_grammar.specs.RequestOrder.{read_request}
 use Rattle.cvc_grammar.proofs.CertAgain.{cert_again}

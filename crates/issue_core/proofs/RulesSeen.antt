@@ -1,6 +1,6 @@
 -- The rules by the lists, one test after another.
-use Rattle.std.proofs.Common.{◌≡◌, ◌==◌, ℕ, List, length, Option, Some, None, Bool, true, false, cond, refl, sym, ◌∙◌, ap}
-use Rattle.std.specs.Prelude.{Result, Ok, Err, ◌&&◌, ◌||◌, not, is_none, find, nat_lt, nat_le}
+use Rattle.std.proofs.Common.{◌≡◌, ◌==◌, ℕ, List, Option, Some, None, Bool, true, false, cond, refl, sym, ◌∙◌, ap}
+use Rattle.std.specs.Prelude.{◌||◌, not, is_none, find, nat_lt, nat_le}
 use Rattle.std.specs.List.{list_any}
 use Rattle.signature_provider.specs.Provider.{Says}
 use Rattle.cvc_grammar.specs.declared.request.Request.{Request}
@@ -10,9 +10,8 @@ use Rattle.policy_limits.specs.declared.registration.Registration.{Registration}
 use Rattle.keeper.specs.Rows.{most_rows}
 use Rattle.issue_core.specs.declared.rule.Rule.{Rule}
 use Rattle.issue_core.specs.declared.rule.Rule.TheVariants as rule
-use Rattle.issue_core.specs.declared.deciding.Seen.{Seen}
-use Rattle.issue_core.specs.Rules.{Case, Issue, Signer, signer, Voucher, voucher, is_used, live, differs_from, with_signer, with_voucher, outer_missing, outer_unknown, outer_known, has_same_holder, is_broken, rules, first_of, first_rule, has_home}
-use Rattle.issue_core.specs.SeenRules.{first_seen, in_order, is_expired_at, has_other_domain, is_outer_missing, is_outer_unknown, is_outer_expired, is_short, voucher_for, outer_said, outer_says, outer_rule, verdict_rule, Agrees, or_rule, RulesBySeen}
+use Rattle.issue_core.specs.Rules.{Case, Issue, Signer, signer, Voucher, voucher, differs_from, with_signer, with_voucher, outer_missing, outer_unknown, outer_known, has_same_holder, is_broken, rules, first_of, has_home}
+use Rattle.issue_core.specs.SeenRules.{in_order, is_expired_at, has_other_domain, is_outer_missing, is_outer_unknown, is_outer_expired, is_short, voucher_for, outer_said, outer_rule, verdict_rule, or_rule, RulesBySeen}
 
 cond_not : {A : Type 0} (b : Bool) (x y : A) → cond (not b) x y ≡ cond b y x
 cond_not true x y = refl

@@ -1,5 +1,5 @@
 -- One call as one delivery, on plain lists.
-use Rattle.std.proofs.Common.{◌≡◌, ◌⊎◌, inl, inr, ℕ, List, [], ◌∷◌, ◌++◌, length, Option, Some, None, Bool, true, false, ◌≤◌, arith, refl, sym, ◌∙◌, ap, subst}
+use Rattle.std.proofs.Common.{◌≡◌, inl, inr, ℕ, List, [], ◌∷◌, ◌++◌, Option, Some, None, Bool, ◌≤◌, arith, refl, sym, ◌∙◌, ap, subst}
 use Rattle.std.proofs.lemmas.List.{append-nil}
 use Rattle.std.specs.Prelude.{Result, Ok, Err, IfSome, IfErr, option_map}
 use Rattle.eac_base.specs.Causes.{Rose}
@@ -18,10 +18,9 @@ use Rattle.issue_core.specs.declared.making.Made.{Made}
 use Rattle.issue_core.specs.declared.issuing.Answer.{Answer}
 use Rattle.issue_core.specs.declared.issuing.Answer.TheVariants as answer
 use Rattle.issue_core.specs.Ledger.{Outcome, Issued, Kept, Refused, Faulted, NoMemory, MayLeave, IsUnused}
-use Rattle.issue_core.specs.Story.{Adds, Tells, Decides}
-use Rattle.issue_core.specs.Asked.{request_of, cert_of, number_in, body_in}
-use Rattle.issue_core.specs.Rules.{Case, Signer, signer}
-use Rattle.issue_core.specs.Due.{due_body}
+use Rattle.issue_core.specs.Story.{Adds, Tells}
+use Rattle.issue_core.specs.Asked.{cert_of, number_in, body_in}
+use Rattle.issue_core.specs.Rules.{Case, Signer}
 use Rattle.issue_core.specs.Issuing.{issuing, is_signed, signed_in, signed_as, Fault, KeeperFailed, ProviderFailed, KeyMissing, IssueEntries}
 use Rattle.issue_core.specs.IssueRows.{entries_at, row_for, left_row, settled_of, AreReadable, ReadablePart, IsReadable, IsSettled}
 use Rattle.issue_core.specs.Looks.{KeeperCause, KeeperCaused}

@@ -1,5 +1,5 @@
 -- The levels of a call, where the rows may be told or not.
-use Rattle.std.proofs.Common.{◌≡◌, ℕ, List, [], ◌∷◌, ◌++◌, Option, Some, None, Bool, true, false, ◌≤◌, arith, refl, sym, ◌∙◌, ap, subst}
+use Rattle.std.proofs.Common.{◌≡◌, ℕ, List, Option, Some, None, true, false, ◌≤◌, arith, refl, sym, ◌∙◌, ap, subst}
 use Rattle.std.specs.Prelude.{Result, Ok, Err}
 use Rattle.eac_base.specs.Causes.{Rose}
 use Rattle.eac_base.specs.Telling.{Told}
@@ -8,7 +8,6 @@ use Rattle.eac_base.proofs.Tellings.{told_then, told_more, told_same}
 use Rattle.holder_reference.specs.Reference.{holder_part}
 use Rattle.signature_provider.specs.Provider.{Says, Holds, public_key}
 use Rattle.cvc_grammar.specs.declared.request.Request.{Request}
-use Rattle.cvc_grammar.specs.declared.refusal.CvcRefusal.{CvcRefusal}
 use Rattle.cvc_grammar.specs.declared.refusal.ReadCvc.{ReadCvc}
 use Rattle.cvc_grammar.specs.declared.refusal.ReadCvc.TheVariants as read
 use Rattle.cvc_grammar.specs.RequestOrder.{read_request}
@@ -29,12 +28,11 @@ use Rattle.issue_core.specs.declared.deciding.Seen.{Seen}
 use Rattle.issue_core.specs.declared.issuing.Answer.{Answer}
 use Rattle.issue_core.specs.declared.issuing.Answer.TheVariants as answer
 use Rattle.issue_core.specs.Ledger.{Refused, NoMemory}
-use Rattle.issue_core.specs.Asked.{request_of}
 use Rattle.issue_core.specs.Rules.{Case, Signer, registered}
 use Rattle.issue_core.specs.Looks.{IsSeen, KeeperCause}
 use Rattle.issue_core.specs.SeenRules.{first_seen, verdict_rule}
 use Rattle.issue_core.specs.Issues.{Serves, IsMade, Enters, outcome_of, MakeCause, VerdictCause, case_of, unreadable_answer, kept_answer}
-use Rattle.issue_core.specs.IssueSteps.{Ready, Allowed, Breaks, Passed, Looked, Fresh, WasRead, Again, ByLists}
+use Rattle.issue_core.specs.IssueSteps.{Ready, Allowed, Passed, Looked, Fresh, WasRead, Again, ByLists}
 use Rattle.issue_core.proofs.Served.{Out, row_made, serves_none, serves_refused, serves_fault, serves_unasked, serves_entered, serves_unmade, serves_earlier}
 use Rattle.issue_core.proofs.Messages.{reads}
 

@@ -1,23 +1,21 @@
 -- The certificate that is due is in the grammar and within its limits, and so is what a row keeps of a request.
-use Rattle.std.proofs.Common.{◌≡◌, ℕ, ◌+◌, ◌<◌, ◌≤◌, Bool, true, false, cond, leb, ◌⊎◌, inl, inr, List, [], ◌∷◌, ◌++◌, length, Option, Some, None, refl, sym, ap, ◌∙◌, subst, arith}
-use Rattle.std.specs.Prelude.{IsTrue, ◌&&◌, ◌||◌, not, nat_lt, ◌/◌, ◌%◌}
-use Rattle.std.proofs.lemmas.List.{length-append, append-nil}
+use Rattle.std.proofs.Common.{◌≡◌, ℕ, ◌+◌, ◌<◌, ◌≤◌, Bool, true, false, cond, leb, ◌⊎◌, inl, inr, List, [], ◌∷◌, ◌++◌, length, None, refl, ap, ◌∙◌, arith}
+use Rattle.std.specs.Prelude.{IsTrue, ◌&&◌, not, nat_lt, ◌/◌, ◌%◌}
+use Rattle.std.proofs.lemmas.List.{length-append}
 use Rattle.std.proofs.lemmas.Bool.{le-leb, leb-true, ltb-true}
 use Rattle.eac_base.specs.Bytes.{is_empty, is_within}
 use Rattle.tlv_core.specs.Object.{object, tag_bytes, length_bytes}
 use Rattle.cv_dates.specs.Calendar.{date_of}
-use Rattle.chat_rights.specs.declared.Template.{Template}
 use Rattle.chat_rights.specs.Template.{template_text, template_byte, identifier_of}
 use Rattle.chat_rights.specs.declared.Kind.{Kind}
 use Rattle.chat_rights.specs.declared.Kind.TheVariants.{Inspection}
 use Rattle.holder_reference.specs.Reference.{is_reference, is_holder, is_sequence, holder_part, sequence_part}
 use Rattle.signature_provider.specs.declared.key.Key.{Key}
 use Rattle.signature_provider.specs.Key.{is_key, key_fits, key_content, key_object, key_values, algorithm_identifier, is_algorithm, is_elliptic, is_elliptic_key, is_rsa_key, is_rsa_point}
-use Rattle.cvc_grammar.specs.declared.request.Request.{Request}
 use Rattle.cvc_grammar.specs.declared.certificate.CertBody.{CertBody}
 use Rattle.cvc_grammar.specs.declared.certificate.Cert.{Cert}
-use Rattle.cvc_grammar.specs.Request.{IsLegalRequest, is_request_key}
-use Rattle.cvc_grammar.specs.Certificate.{profile_object, body_content, body_text, extensions_text, signature_object, cert_text, IsLegalBody, IsLegalCert, is_signature, is_key_of_body}
+use Rattle.cvc_grammar.specs.Request.{is_request_key}
+use Rattle.cvc_grammar.specs.Certificate.{profile_object, body_content, body_text, extensions_text, signature_object, IsLegalBody, IsLegalCert, is_signature, is_key_of_body}
 use Rattle.cvc_grammar.proofs.CertAgain.{longer}
 use Rattle.keeper.specs.Rows.{IsStorableKey}
 use Rattle.issue_core.specs.Due.{bare_key}

@@ -1,13 +1,13 @@
 -- The row that is added may be kept.
-use Rattle.std.proofs.Common.{◌≡◌, ℕ, ◌≤◌, Bool, List, length, sym, ap, ◌∙◌, subst, arith}
-use Rattle.signature_provider.specs.Provider.{Says, public_key}
+use Rattle.std.proofs.Common.{◌≡◌, ℕ, ◌≤◌, Bool, List, length, sym, ap, subst, arith}
+use Rattle.signature_provider.specs.Provider.{Says}
 use Rattle.cvc_grammar.specs.declared.request.Request.{Request}
 use Rattle.cvc_grammar.specs.Request.{IsRequest}
 use Rattle.policy_limits.specs.declared.registration.Registration.{Registration}
 use Rattle.keeper.specs.declared.rows.Row.{Row}
 use Rattle.keeper.specs.declared.rows.Part.TheVariants as part
 use Rattle.keeper.specs.declared.rows.Settled.{Settled}
-use Rattle.keeper.specs.Rows.{IsStorable, IsStorableIssued}
+use Rattle.keeper.specs.Rows.{IsStorable}
 use Rattle.issue_core.specs.declared.making.Made.{Made}
 use Rattle.issue_core.specs.Rules.{Signer}
 use Rattle.issue_core.specs.Issues.{IsMade}

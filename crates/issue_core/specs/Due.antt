@@ -1,6 +1,6 @@
 -- The certificate that is due where no rule is broken (fields of BSI TR-03110-3, limits after TR-03139; that expiry
 -- and rights are cut to those of the signing certificate is this project's own).
-use Rattle.std.specs.Prelude.{ℕ, List, [], Option, Some, None, Result, Ok, Err, bit_and, option_and_then}
+use Rattle.std.specs.Prelude.{ℕ, [], Option, Some, None, Result, Ok, Err, bit_and, option_and_then}
 use Rattle.signature_provider.specs.declared.key.Key.{Key}
 use Rattle.cvc_grammar.specs.declared.request.Request.{Request}
 use Rattle.cvc_grammar.specs.declared.certificate.CertBody.{CertBody}

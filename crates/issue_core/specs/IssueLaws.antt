@@ -5,7 +5,7 @@ use Rattle.policy_limits.specs.Roster.{Roster}
 use Rattle.keeper.specs.declared.rows.Row.{Row}
 use Rattle.keeper.specs.Rows.{UniqueKeys}
 use Rattle.issue_core.specs.declared.rule.Rule.{Rule}
-use Rattle.issue_core.specs.Ledger.{Outcome, Kept, entries, entry_of, faces, kept_for, is_open}
+use Rattle.issue_core.specs.Ledger.{Outcome, Kept, entries, faces, kept_for, is_open}
 use Rattle.issue_core.specs.Story.{Decides, NoTwo, answer_due}
 use Rattle.issue_core.specs.Struck.{struck, AreAlike, AgreeIn, InPlaces, bare}
 use Rattle.issue_core.specs.Rules.{Case, first_rule}

@@ -1,6 +1,6 @@
 -- What is known before each step of a call of an issuing desk: one field for each way that the call can end there or go
 -- on (this project's own).
-use Rattle.std.specs.Prelude.{◌≡◌, ℕ, ◌<◌, List, length, Option, Some, None, Ok, Err, Bool, true, false}
+use Rattle.std.specs.Prelude.{◌≡◌, ℕ, ◌<◌, List, length, Option, Some, None, Ok, Err, true, false}
 use Rattle.signature_provider.specs.Provider.{Says}
 use Rattle.cvc_grammar.specs.declared.request.Request.{Request}
 use Rattle.cvc_grammar.specs.declared.refusal.CvcRefusal.{CvcRefusal}

@@ -1,9 +1,8 @@
 -- One call of an issuing desk: one delivery, with the desk's issued rows before it as the earlier entries (this project's
 -- own).
-use Rattle.std.specs.Prelude.{◌≡◌, ◌⊎◌, ℕ, ◌≤◌, List, [], ◌∷◌, ◌++◌, length, Option, Some, None, Result, Ok, Err, IfErr, IfSome, IsTrue, Bool, true, false, if◌then◌else◌, option_map}
+use Rattle.std.specs.Prelude.{◌≡◌, ◌⊎◌, ℕ, ◌≤◌, List, [], ◌∷◌, ◌++◌, length, Option, Some, None, Result, Ok, Err, IfErr, IfSome, IsTrue, Bool, true, false, if◌then◌else◌}
 use Rattle.std.specs.Str.{bytes_eq}
 use Rattle.eac_base.specs.Causes.{Rose}
-use Rattle.holder_reference.specs.Reference.{holder_part}
 use Rattle.signature_provider.specs.Provider.{PublicKey, Says, Holds, Signed, SaysMore, HoldsMore, KeepsHonest, public_key}
 use Rattle.cvc_grammar.specs.declared.request.Request.{Request}
 use Rattle.cvc_grammar.specs.declared.certificate.Cert.{Cert}
@@ -22,7 +21,7 @@ use Rattle.keeper.specs.declared.traits.KeepRefusal.{KeepRefusal}
 use Rattle.keeper.specs.declared.traits.KeepRefusal.TheVariants as refusal
 use Rattle.keeper.specs.Rows.{rows_of}
 use Rattle.keeper.specs.Keeping.{MayAdd}
-use Rattle.issue_core.specs.Ledger.{Outcome, Issued, Kept, Refused, Faulted, NoMemory, Entry, faces}
+use Rattle.issue_core.specs.Ledger.{Outcome, Issued, Kept, Refused, Faulted, NoMemory, faces}
 use Rattle.issue_core.specs.Story.{Decides}
 use Rattle.issue_core.specs.Asked.{request_of, cert_of, cert_message}
 use Rattle.issue_core.specs.Rules.{Case, Issue, Signer, signer, registered}

@@ -1,5 +1,5 @@
 -- What the rows say of a request, look by look (this project's own).
-use Rattle.std.specs.Prelude.{◌≡◌, ◌&&◌, ℕ, ◌≤◌, List, [], ◌∷◌, length, Option, Some, None, Result, Ok, Err, IfErr, Bool, true, false, not, if◌then◌else◌, filter, count_by, nat_lt, option_and_then}
+use Rattle.std.specs.Prelude.{◌≡◌, ℕ, ◌≤◌, List, length, Option, Some, None, Result, IfErr, Bool, true, false, not, if◌then◌else◌, count_by, nat_lt, option_and_then}
 use Rattle.eac_base.specs.Causes.{Rose}
 use Rattle.holder_reference.specs.Reference.{holder_part}
 use Rattle.cvc_grammar.specs.declared.request.Request.{Request}
@@ -9,7 +9,7 @@ use Rattle.policy_limits.specs.declared.registration.First.{First}
 use Rattle.keeper.specs.declared.rows.Row.{Row}
 use Rattle.keeper.specs.declared.rows.Part.{Part}
 use Rattle.keeper.specs.declared.rows.Part.TheVariants as part
-use Rattle.keeper.specs.declared.rows.Table.TheVariants.{Register, Issued, Own, Ca}
+use Rattle.keeper.specs.declared.rows.Table.TheVariants.{Issued, Own, Ca}
 use Rattle.keeper.specs.declared.traits.KeepRefusal.{KeepRefusal}
 use Rattle.keeper.specs.declared.traits.KeepRefusal.TheVariants as refusal
 use Rattle.keeper.specs.Rows.{row_at, rows_of, holder_rows, is_of_holder}

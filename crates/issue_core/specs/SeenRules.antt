@@ -1,7 +1,6 @@
 -- The rules by what was seen of the rows, and by the verdicts (this project's own).
-use Rattle.std.specs.Prelude.{◌≡◌, ◌==◌, ◌||◌, ℕ, List, length, Option, Some, None, Ok, Bool, true, false, not, is_none, if◌then◌else◌, nat_lt, nat_le}
+use Rattle.std.specs.Prelude.{◌≡◌, ◌==◌, ◌||◌, ℕ, List, length, Option, Some, None, Ok, Bool, false, not, is_none, if◌then◌else◌, nat_lt, nat_le}
 use Rattle.std.specs.List.{list_any}
-use Rattle.holder_reference.specs.Reference.{holder_part}
 use Rattle.signature_provider.specs.Provider.{Says, public_key}
 use Rattle.cvc_grammar.specs.declared.request.Request.{Request}
 use Rattle.cvc_grammar.specs.declared.request.Outer.{Outer}

@@ -1,13 +1,18 @@
 // One request at an issuing desk.
-ghost use Rattle.std.specs.Prelude.{◌≡◌, ◌∷◌, [], IfSome};
+ghost use Rattle.std.specs.Prelude.{◌≡◌, ◌∷◌, [], Some, None, Ok, false, IfOk, IfSome};
 ghost use Rattle.eac_base.specs.Telling.{Told};
 ghost use Rattle.keeper.specs.Rows.{IsStorable};
 ghost use Rattle.keeper.specs.declared.rows.Part.TheVariants as part;
+ghost use Rattle.signature_provider.specs.Provider.{Says};
 ghost use Rattle.cvc_grammar.specs.Request.{IsRequest};
+ghost use Rattle.issue_core.specs.Asked.{request_of};
 ghost use Rattle.issue_core.specs.Rules.{Case};
+ghost use Rattle.issue_core.specs.SeenRules.{first_seen};
+ghost use Rattle.issue_core.specs.declared.deciding.Seen.{Seen};
 ghost use Rattle.issue_core.specs.IssueRows.{AreReadable};
 ghost use Rattle.issue_core.specs.Looks.{KeeperCaused};
-ghost use Rattle.issue_core.specs.Issues.{unreadable_answer, kept_answer, added_answer, IssueCause, StaysTrue, Enters, Serves, outcome_of, case_of};
+ghost use Rattle.issue_core.specs.Issues.{unreadable_answer, kept_answer, added_answer, IssueCause, StaysTrue, Enters, Serves, outcome_of, case_of, bare_case};
+ghost use Rattle.issue_core.specs.AnswerCauses.{IsAdmitted, HasSeen, IsCleared, MayMake, Answered, AddingSays};
 ghost use Rattle.issue_core.specs.IssueSteps.{Ready, Allowed, Passed, Looked, Fresh, WasRead, ByLists};
 
 use crate::deciding::{Seen, first_of_seen};
@@ -97,6 +102,7 @@ fn enter<B: Keeper>(
 ) -> Result<Answer, IssueFault>
     requires { IsStorable row.now }
     ensures told { Told (B.rows keeper.old) (B.rows keeper.new) (λ before after. Enters before after row.now certificate result) }
+    ensures answered { IfOk result (AddingSays row.now certificate request.now) }
     ensures cause { KeeperCaused (B.faults keeper.old) (B.faults keeper.new) result }
 {
     let added = keeper.add(alloc, row);
@@ -137,6 +143,7 @@ fn serve_made<B: Keeper, P: SignatureProvider>(
     requires { IsRequest read request.now }
     ensures told { Told (B.rows keeper.old) (B.rows keeper.new) (λ before after. (c : Case) → c.desk ≡ desk → c.bytes ≡ request.now → Ready c read registration.now signing.now days before →
         Serves (P.says provider.new) (P.holds provider.old) c (outcome_of result) (B.faults keeper.old, B.faults keeper.new) (P.faults provider.old, P.faults provider.new) before after) }
+    ensures answered { (said : Says) → (c : Case) → c.desk ≡ desk → c.bytes ≡ request.now → MayMake said c read registration.now signing.now days → Answered said (P.says provider.new) (P.holds provider.old) c result }
     ensures cause { IssueCause (P.holds provider.old) (B.faults keeper.old, B.faults keeper.new) (P.faults provider.old, P.faults provider.new) result }
     ensures provider { StaysTrue (P.says provider.old) (P.says provider.new) (P.holds provider.old) (P.holds provider.new) (P.signed provider.old) (P.signed provider.new) }
 {
@@ -168,6 +175,7 @@ fn serve_due<B: Keeper, P: SignatureProvider>(
     requires { IsRequest read request.now }
     ensures told { Told (B.rows keeper.old) (B.rows keeper.new) (λ before after. (c : Case) → c.desk ≡ desk → c.day ≡ day → c.bytes ≡ request.now → Allowed c read registration.now signing.now before →
         Serves (P.says provider.new) (P.holds provider.old) c (outcome_of result) (B.faults keeper.old, B.faults keeper.new) (P.faults provider.old, P.faults provider.new) before after) }
+    ensures answered { (said : Says) → (c : Case) → (seen : Seen) → c.desk ≡ desk → c.day ≡ day → c.bytes ≡ request.now → seen.signing ≡ signing.now → IsCleared said c read registration.now seen → Answered said (P.says provider.new) (P.holds provider.old) c result }
     ensures cause { IssueCause (P.holds provider.old) (B.faults keeper.old, B.faults keeper.new) (P.faults provider.old, P.faults provider.new) result }
     ensures provider { StaysTrue (P.says provider.old) (P.says provider.new) (P.holds provider.old) (P.holds provider.new) (P.signed provider.old) (P.signed provider.new) }
 {
@@ -212,6 +220,7 @@ fn serve_allowed<B: Keeper, P: SignatureProvider>(
     requires { IsRequest read request.now }
     ensures told { Told (B.rows keeper.old) (B.rows keeper.new) (λ before after. (c : Case) → c.desk ≡ desk → c.day ≡ day → c.bytes ≡ request.now → Passed (P.says provider.old) c read registration.now seen.now before →
         Serves (P.says provider.new) (P.holds provider.old) c (outcome_of result) (B.faults keeper.old, B.faults keeper.new) (P.faults provider.old, P.faults provider.new) before after) }
+    ensures answered { (c : Case) → c.desk ≡ desk → c.day ≡ day → c.bytes ≡ request.now → HasSeen c read registration.now seen.now → first_seen day read registration.now seen.now ≡ None → Answered (P.says provider.old) (P.says provider.new) (P.holds provider.old) c result }
     ensures cause { IssueCause (P.holds provider.old) (B.faults keeper.old, B.faults keeper.new) (P.faults provider.old, P.faults provider.new) result }
     ensures provider { StaysTrue (P.says provider.old) (P.says provider.new) (P.holds provider.old) (P.holds provider.new) (P.signed provider.old) (P.signed provider.new) }
 {
@@ -246,6 +255,7 @@ fn serve_registered<B: Keeper, P: SignatureProvider>(
     requires { IsRequest read request.now }
     ensures told { Told (B.rows keeper.old) (B.rows keeper.new) (λ before after. (c : Case) → c.desk ≡ desk → c.day ≡ day → c.bytes ≡ request.now → Looked (P.says provider.old) c read registration.now before →
         Serves (P.says provider.new) (P.holds provider.old) c (outcome_of result) (B.faults keeper.old, B.faults keeper.new) (P.faults provider.old, P.faults provider.new) before after) }
+    ensures answered { (c : Case) → c.desk ≡ desk → c.day ≡ day → c.bytes ≡ request.now → IsAdmitted c read registration.now → Answered (P.says provider.old) (P.says provider.new) (P.holds provider.old) c result }
     ensures cause { IssueCause (P.holds provider.old) (B.faults keeper.old, B.faults keeper.new) (P.faults provider.old, P.faults provider.new) result }
     ensures provider { StaysTrue (P.says provider.old) (P.says provider.new) (P.holds provider.old) (P.holds provider.new) (P.signed provider.old) (P.signed provider.new) }
 {
@@ -282,6 +292,7 @@ fn serve_new<B: Keeper, P: SignatureProvider>(
     requires { IsRequest read request.now }
     ensures told { Told (B.rows keeper.old) (B.rows keeper.new) (λ before after. (c : Case) → c.setup ≡ setup.now → c.desk ≡ desk → c.day ≡ day → c.bytes ≡ request.now → Fresh (P.says provider.old) c read before →
         Serves (P.says provider.new) (P.holds provider.old) c (outcome_of result) (B.faults keeper.old, B.faults keeper.new) (P.faults provider.old, P.faults provider.new) before after) }
+    ensures answered { (c : Case) → c.setup ≡ setup.now → c.desk ≡ desk → c.day ≡ day → c.bytes ≡ request.now → request_of request.now ≡ Ok read → Answered (P.says provider.old) (P.says provider.new) (P.holds provider.old) c result }
     ensures cause { IssueCause (P.holds provider.old) (B.faults keeper.old, B.faults keeper.new) (P.faults provider.old, P.faults provider.new) result }
     ensures provider { StaysTrue (P.says provider.old) (P.says provider.new) (P.holds provider.old) (P.holds provider.new) (P.signed provider.old) (P.signed provider.new) }
 {
@@ -321,6 +332,7 @@ fn serve_read<B: Keeper, P: SignatureProvider>(
     requires { IsRequest read request.now }
     ensures told { Told (B.rows keeper.old) (B.rows keeper.new) (λ before after. (c : Case) → c.setup ≡ setup.now → c.desk ≡ desk → c.day ≡ day → c.bytes ≡ request.now → WasRead (P.says provider.old) c read before →
         Serves (P.says provider.new) (P.holds provider.old) c (outcome_of result) (B.faults keeper.old, B.faults keeper.new) (P.faults provider.old, P.faults provider.new) before after) }
+    ensures answered { (c : Case) → c.setup ≡ setup.now → c.desk ≡ desk → c.day ≡ day → c.bytes ≡ request.now → request_of request.now ≡ Ok read → Answered (P.says provider.old) (P.says provider.new) (P.holds provider.old) c result }
     ensures cause { IssueCause (P.holds provider.old) (B.faults keeper.old, B.faults keeper.new) (P.faults provider.old, P.faults provider.new) result }
     ensures provider { StaysTrue (P.says provider.old) (P.says provider.new) (P.holds provider.old) (P.holds provider.new) (P.signed provider.old) (P.signed provider.new) }
 {
@@ -345,6 +357,7 @@ fn serve<B: Keeper, P: SignatureProvider>(
         ByLists (P.says provider.old) (case_of (P.says provider.old) setup.now desk day request.now before) before →
         Serves (P.says provider.new) (P.holds provider.old) (case_of (P.says provider.old) setup.now desk day request.now before) (outcome_of result)
         (B.faults keeper.old, B.faults keeper.new) (P.faults provider.old, P.faults provider.new) before after) }
+    ensures answered { Answered (P.says provider.old) (P.says provider.new) (P.holds provider.old) (bare_case setup.now desk day request.now []) result }
     ensures cause { IssueCause (P.holds provider.old) (B.faults keeper.old, B.faults keeper.new) (P.faults provider.old, P.faults provider.new) result }
     ensures provider { StaysTrue (P.says provider.old) (P.says provider.new) (P.holds provider.old) (P.holds provider.new) (P.signed provider.old) (P.signed provider.new) }
 {
@@ -370,7 +383,8 @@ fn serve<B: Keeper, P: SignatureProvider>(
 /// answered with it.
 ///
 /// A keeper that doesn't tell its rows may answer to the adding that the key is there, which is answered as `Kept` or
-/// `Used` by its row's bytes, or that the table is full, which is rule 12.
+/// `Used` by its row's bytes, or that the table is full, which is rule 12. It gives rows that are as was asked for, and
+/// each answer has its cause in them, in the setup, the day, the bytes and the verdicts.
 pub fn issue<B: Keeper, P: SignatureProvider>(
     alloc: Global,
     setup: &Setup,
@@ -385,6 +399,9 @@ pub fn issue<B: Keeper, P: SignatureProvider>(
     ensures delivery { Told (B.rows keeper.old) (B.rows keeper.new) (λ before after. AreReadable before →
         Serves (P.says provider.new) (P.holds provider.old) (case_of (P.says provider.old) setup.now desk day request.now before) (outcome_of result)
         (B.faults keeper.old, B.faults keeper.new) (P.faults provider.old, P.faults provider.new) before after) }
+    // Whether the keeper tells its rows or not, an answer has its cause in the setup, the day, the bytes, the verdicts and the
+    // rows that the keeper gave.
+    ensures answered { Answered (P.says provider.old) (P.says provider.new) (P.holds provider.old) (bare_case setup.now desk day request.now []) result }
     // For every keeper and provider, the counts haven't fallen, and a fault came only where its count rose or a key is
     // missing; the provider says and holds what it did, and stays honest.
     ensures cause { IssueCause (P.holds provider.old) (B.faults keeper.old, B.faults keeper.new) (P.faults provider.old, P.faults provider.new) result }

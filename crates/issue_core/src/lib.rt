@@ -8,7 +8,13 @@
 //!
 //! The plain register is the first such desk: a reference with bytes is its request, and a day is what it gives.
 //! [`register`] serves one line of it over a keeper, and promises that the call was one delivery of the story.
-//! The functions of `laws` have no body: their contracts are the laws of its stories.
+//!
+//! An issuing desk is the second, a country authority or a document verifier: a request's bytes are its request, and a
+//! certificate is what it gives (after BSI TR-03129 and TR-03139). [`issue`] serves one request over a keeper and a
+//! provider of signatures, by the first of the fourteen rules of [`Rule`], and promises that the call was one delivery of
+//! the story, with the provider's verdicts at the call.
+//!
+//! The functions of `laws` and `issue_laws` have no body: their contracts are the laws of both desks' stories.
 //!
 //! Scripts, journals and messages are left to the layers above.
 #![tactic(auto)]

@@ -1,10 +1,12 @@
 // What the rows say of a request: each look at the keeper by itself.
-ghost use Rattle.std.specs.Prelude.{◌≡◌, None, IfOk, not, nat_lt, count_by, length};
+ghost use Rattle.std.specs.Prelude.{◌≡◌, None, IfOk, IfSome, not, nat_lt, count_by, length};
 ghost use Rattle.holder_reference.specs.Reference.{holder_part};
 ghost use Rattle.eac_base.specs.Telling.{Told};
 ghost use Rattle.keeper.specs.Rows.{row_at, rows_of, holder_rows};
 ghost use Rattle.keeper.specs.declared.rows.Table.TheVariants as table;
+ghost use Rattle.keeper.specs.Keeping.{IsAsked};
 ghost use Rattle.issue_core.specs.Looks.{KeeperCaused, signing_in, vouching_in, outer_in, until_in, is_live_row, HolderSeen, CountsSeen, IsSeen};
+ghost use Rattle.issue_core.specs.AnswerCauses.{NewestSigns, SignsAs, HeldAs, VouchesAs, OuterVouchesAs, IsSeenAsked};
 
 use crate::IssueFault;
 use crate::deciding::{Seen, has_expired};
@@ -27,6 +29,7 @@ pub fn look<B: Keeper>(
     keeper: &mut B,
 ) -> Result<Option<Row>, IssueFault>
     ensures told { Told (B.rows keeper.old) (B.rows keeper.new) (λ before after. (after ≡ before) × IfOk result (λ o. o ≡ row_at table desk reference.now before)) }
+    ensures asked { IfOk result (λ o. IfSome o (IsAsked table desk reference.now)) }
     ensures cause { KeeperCaused (B.faults keeper.old) (B.faults keeper.new) result }
 {
     match keeper.find(alloc, table, desk, reference) {
@@ -41,6 +44,7 @@ fn find_newest<B: Keeper>(
     keeper: &mut B,
 ) -> Result<Option<Signing>, IssueFault>
     ensures told { Told (B.rows keeper.old) (B.rows keeper.new) (λ before after. (after ≡ before) × IfOk result (λ o. o ≡ signing_in desk None before)) }
+    ensures asked { IfOk result (NewestSigns desk) }
     ensures cause { KeeperCaused (B.faults keeper.old) (B.faults keeper.new) result }
 {
     match keeper.of_desk(alloc, Table::Own, desk) {
@@ -60,6 +64,7 @@ fn find_signing<B: Keeper>(
     keeper: &mut B,
 ) -> Result<Option<Signing>, IssueFault>
     ensures told { Told (B.rows keeper.old) (B.rows keeper.new) (λ before after. (after ≡ before) × IfOk result (λ o. o ≡ signing_in desk authority.now before)) }
+    ensures asked { IfOk result (SignsAs desk authority.now) }
     ensures cause { KeeperCaused (B.faults keeper.old) (B.faults keeper.new) result }
 {
     match authority {
@@ -81,6 +86,7 @@ fn find_vouching<B: Keeper>(
     keeper: &mut B,
 ) -> Result<Option<Vouching>, IssueFault>
     ensures told { Told (B.rows keeper.old) (B.rows keeper.new) (λ before after. (after ≡ before) × IfOk result (λ o. o ≡ vouching_in desk first.now holder.now reference.now before)) }
+    ensures asked { IfOk result (VouchesAs desk first.now holder.now reference.now) }
     ensures cause { KeeperCaused (B.faults keeper.old) (B.faults keeper.new) result }
 {
     let issued = look(alloc, Table::Issued, desk, reference, keeper)?;
@@ -101,6 +107,7 @@ fn find_outer<B: Keeper>(
     keeper: &mut B,
 ) -> Result<Option<Vouching>, IssueFault>
     ensures told { Told (B.rows keeper.old) (B.rows keeper.new) (λ before after. (after ≡ before) × IfOk result (λ o. o ≡ outer_in desk first.now holder.now outer.now before)) }
+    ensures asked { IfOk result (OuterVouchesAs desk first.now holder.now outer.now) }
     ensures cause { KeeperCaused (B.faults keeper.old) (B.faults keeper.new) result }
 {
     match outer {
@@ -135,6 +142,7 @@ fn find_live<B: Keeper>(
     keeper: &mut B,
 ) -> Result<(usize, usize), IssueFault>
     ensures told { Told (B.rows keeper.old) (B.rows keeper.new) (λ before after. (after ≡ before) × IfOk result (HolderSeen day (holder_rows table.Issued desk holder.now before))) }
+    ensures asked { IfOk result (HeldAs desk day holder.now) }
     ensures cause { KeeperCaused (B.faults keeper.old) (B.faults keeper.new) result }
 {
     match keeper.of_holder(alloc, Table::Issued, desk, holder) {
@@ -162,6 +170,7 @@ fn find_counts<B: Keeper>(
     keeper: &mut B,
 ) -> Result<(usize, usize, u64), IssueFault>
     ensures told { Told (B.rows keeper.old) (B.rows keeper.new) (λ before after. (after ≡ before) × IfOk result (CountsSeen desk day holder.now before)) }
+    ensures asked { IfOk result (λ seen. HeldAs desk day holder.now (seen.0, seen.1)) }
     ensures cause { KeeperCaused (B.faults keeper.old) (B.faults keeper.new) result }
 {
     let (held, live) = find_live(alloc, desk, day, holder, keeper)?;
@@ -179,6 +188,7 @@ pub fn gather<B: Keeper>(
     keeper: &mut B,
 ) -> Result<Seen, IssueFault>
     ensures told { Told (B.rows keeper.old) (B.rows keeper.new) (λ before after. (after ≡ before) × IfOk result (IsSeen desk day request.now registration.now before)) }
+    ensures asked { IfOk result (IsSeenAsked desk day request.now registration.now) }
     ensures cause { KeeperCaused (B.faults keeper.old) (B.faults keeper.new) result }
 {
     let holder = request.body.holder.holder();

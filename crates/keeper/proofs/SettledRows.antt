@@ -1,7 +1,7 @@
 -- A settling changes the one row of a key, and keeps what is known of the rows.
 use Rattle.std.proofs.Common.{◌≡◌, ⊎_elim, ℕ, suc, ◌+◌, ◌<◌, Bool, true, false, cond, List, [], ◌∷◌, length, Some, None, Ok, Err, refl, sym, ap, ◌∙◌, subst, arith, true≢false, nat_eq, nat_lt}
-use Rattle.std.specs.Prelude.{◌&&◌, ◌||◌, not, is_some, IfSome, slice_set, slice_index_or}
-use Rattle.std.specs.List.{All, find, prefix_len, position, position_or_len}
+use Rattle.std.specs.Prelude.{◌&&◌, ◌||◌, not, is_some, slice_set, slice_index_or}
+use Rattle.std.specs.List.{All, find, prefix_len, position}
 use Rattle.std.specs.Str.{bytes_eq}
 use Rattle.std.proofs.lemmas.Bool.{eqb-true, ltb-true, ltb-false}
 use Rattle.std.proofs.lemmas.List.Elements.{All-map}
@@ -20,7 +20,7 @@ use Rattle.keeper.specs.declared.traits.KeepRefusal.{KeepRefusal}
 use Rattle.keeper.specs.declared.traits.KeepRefusal.TheVariants.{Failed, Full, Twice, Absent, NoMemory}
 use Rattle.keeper.specs.Rows.{table_of, kind_of, same_table, is_of, has_key, row_at, kept_row, settled_part, with_settled, settled_rows, are_unique, UniqueKeys, IsStorableSettled, IsStorablePart, IsStorable}
 use Rattle.keeper.specs.Keeping.{MaySettle, Settles}
-use Rattle.keeper.proofs.UniqueRows.{has_own, and_parts, here_none, unique_parts}
+use Rattle.keeper.proofs.UniqueRows.{and_parts, here_none, unique_parts}
 
 -- ---- one row's key is the other's
 

@@ -1,3 +1,4 @@
+use Rattle.issue_core.proofs.Answering.{answered_entered}
 use Rattle.issue_core.specs.declared.serving.IssueFault.TheVariants as fault
 use Rattle.signature_provider.specs.Provider.{public_key}
 use Rattle.issue_core.proofs.Caused.{cause_unmade}
@@ -20,3 +21,6 @@ returns-in-Ok-make-clause-told g c = told_entered _ _ _ _ c.args.read c.args.reg
 
 pub returns-in-Err-clause-cause : goal.returns-in-Err-clause-cause
 returns-in-Err-clause-cause g c = cause_unmade (g.P.SignatureProvider.holds c.args.provider.now) (public_key c.args.signing.now.key) c.args.signing.now.reference _ _ c.in-Err.fault c.make.ensures.cause.later c.in-Err.ensures.cause.failed
+
+pub returns-in-Ok-make-clause-answered : goal.returns-in-Ok-make-clause-answered
+returns-in-Ok-make-clause-answered g c = answered_entered _ (g.P.SignatureProvider.holds c.args.provider.now) c.args.desk c.args.request.now c.args.read c.args.registration.now c.args.signing.now c.args.days c.in-Ok.kept c.in-Ok-make.made c.issued_row-row.result c.enter.result c.in-Ok-make.ensures.made c.issued_row-row.ensures c.enter.ensures.answered

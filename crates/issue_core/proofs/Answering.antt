@@ -1,0 +1,294 @@
+-- Causes of answers over the steps of a call, for every keeper.
+use Rattle.std.proofs.Common.{◌≡◌, ℕ, List, Option, Some, None, Bool, true, false, cond, refl, sym, ◌∙◌, ap, subst, true≢false, inl, inr}
+use Rattle.std.specs.Prelude.{Result, Ok, Err, IfOk, IfSome, is_none, nat_le}
+use Rattle.std.specs.Str.{bytes_eq}
+use Rattle.eac_base.specs.Answers.{Answers}
+use Rattle.holder_reference.specs.Reference.{holder_part}
+use Rattle.signature_provider.specs.Provider.{Says, Holds, public_key}
+use Rattle.cvc_grammar.specs.declared.request.Request.{Request}
+use Rattle.cvc_grammar.specs.declared.request.Outer.{Outer}
+use Rattle.cvc_grammar.specs.declared.refusal.ReadCvc.{ReadCvc}
+use Rattle.cvc_grammar.specs.declared.refusal.ReadCvc.TheVariants as read
+use Rattle.cvc_grammar.specs.RequestOrder.{read_request}
+use Rattle.cvc_grammar.specs.Views.{refused_cvc}
+use Rattle.policy_limits.specs.Roster.{Roster, registration}
+use Rattle.policy_limits.specs.Validity.{validity, minimum_days}
+use Rattle.policy_limits.specs.declared.registration.Registration.{Registration}
+use Rattle.keeper.specs.declared.rows.Row.{Row}
+use Rattle.keeper.specs.declared.rows.Part.{Part}
+use Rattle.keeper.specs.declared.rows.Part.TheVariants as part
+use Rattle.keeper.specs.declared.rows.Table.{Table}
+use Rattle.keeper.specs.declared.rows.Table.TheVariants as table
+use Rattle.keeper.specs.declared.traits.KeepRefusal.{KeepRefusal}
+use Rattle.keeper.specs.declared.traits.KeepRefusal.TheVariants as refusal
+use Rattle.keeper.specs.Rows.{table_of, most_rows}
+use Rattle.keeper.specs.Keeping.{IsAsked, AddAsked}
+use Rattle.issue_core.specs.declared.rule.Rule.{Rule}
+use Rattle.issue_core.specs.declared.rule.Rule.TheVariants as rule
+use Rattle.issue_core.specs.declared.serving.IssueFault.{IssueFault}
+use Rattle.issue_core.specs.declared.making.Made.{Made}
+use Rattle.issue_core.specs.declared.deciding.Seen.{Seen}
+use Rattle.issue_core.specs.declared.issuing.Answer.{Answer}
+use Rattle.issue_core.specs.declared.issuing.Answer.TheVariants as answer
+use Rattle.issue_core.specs.Asked.{request_of, cert_of}
+use Rattle.issue_core.specs.Rules.{Case, Signer, Voucher, registered, not_registered}
+use Rattle.issue_core.specs.SeenRules.{first_seen, in_order, is_short, is_expired_at, has_other_domain, is_outer_missing, is_outer_unknown, is_outer_expired, inner_says, outer_says, outer_rule, verdict_rule}
+use Rattle.issue_core.specs.Issues.{IsMade, unreadable_answer, kept_answer, added_answer}
+use Rattle.issue_core.specs.AnswerCauses.{IsSeenAsked, IsAdmitted, HasSeen, IsCleared, MayMake, SeenBreaks, VerdictBreaks, RefusalCause, AnswerCause, Answered, AddingSays}
+use Rattle.issue_core.proofs.LookedBy.{NoneBroken, none_broken}
+use Rattle.issue_core.proofs.Messages.{reads}
+
+-- ---- which rules a step answers
+
+-- one of the rules 4 to 12
+abbrev IsOfRows : Rule → Type 0
+IsOfRows (rule.Syntax e) = ⊥
+IsOfRows rule.Used = ⊥
+IsOfRows rule.Holder = ⊥
+IsOfRows rule.Inner = ⊥
+IsOfRows rule.Outer = ⊥
+IsOfRows k = Unit {0}
+
+-- one of the rules 13 and 14
+abbrev IsOfVerdicts : Rule → Type 0
+IsOfVerdicts rule.Inner = Unit {0}
+IsOfVerdicts rule.Outer = Unit {0}
+IsOfVerdicts k = ⊥
+
+or_next : (P : Rule → Type 0) (b : Bool) (j : Rule) (o : Option Rule) → P j → IfSome o P → IfSome (cond b (Some j) o) P
+or_next P true j o here next = here
+or_next P false j o here next = next
+
+in_order_among : (a e d m u x l s f : Bool) → IfSome (in_order a e d m u x l s f) IsOfRows
+in_order_among a e d m u x l s f =
+    or_next IsOfRows a rule.Authority _ tt (or_next IsOfRows e rule.AuthorityExpired _ tt (or_next IsOfRows d rule.Domain _ tt
+    (or_next IsOfRows m rule.OuterMissing _ tt (or_next IsOfRows u rule.OuterUnknown _ tt (or_next IsOfRows x rule.OuterExpired _ tt
+    (or_next IsOfRows l rule.LiveLimit _ tt (or_next IsOfRows s rule.Short _ tt (or_next IsOfRows f rule.Full None tt tt))))))))
+
+first_is_of_rows : (day : ℕ) (r : Request) (g : Registration) (seen : Seen) → IfSome (first_seen day r g seen) IsOfRows
+first_is_of_rows day r g seen = in_order_among (is_none seen.signing) (is_expired_at day seen.signing) (has_other_domain r seen.signing)
+    (is_outer_missing g.first r.outer seen.held) (is_outer_unknown r.outer seen.vouching) (is_outer_expired day seen.vouching)
+    (nat_le g.live_limit seen.live) (is_short day g seen.signing) (nat_le most_rows seen.count)
+
+if_agreed : (b : Bool) → IfSome (cond b None (Some rule.Outer)) IsOfVerdicts
+if_agreed true = tt
+if_agreed false = tt
+
+outer_is_of_verdicts : (said : Says) (r : Request) (o : Option Outer) (v : Option Voucher) → IfSome (outer_rule said r o v) IsOfVerdicts
+outer_is_of_verdicts said r (Some o) (Some v) = if_agreed (outer_says said r o v)
+outer_is_of_verdicts said r (Some o) None = tt
+outer_is_of_verdicts said r None v = tt
+
+if_inner : (b : Bool) (o : Option Rule) → IfSome o IsOfVerdicts → IfSome (cond b o (Some rule.Inner)) IsOfVerdicts
+if_inner true o h = h
+if_inner false o h = tt
+
+verdict_is_of_verdicts : (said : Says) (r : Request) (v : Option Voucher) → IfSome (verdict_rule said r v) IsOfVerdicts
+verdict_is_of_verdicts said r v = if_inner (inner_says said r) (outer_rule said r r.outer v) (outer_is_of_verdicts said r r.outer v)
+
+given : (P : Rule → Type 0) (o : Option Rule) (k : Rule) → o ≡ Some k → IfSome o P → P k
+given P o k is h = subst (λ (x : Option Rule). IfSome x P) is h
+
+module _ (said says : Says) (holds : Holds) (c : Case) where
+  rows_refuse : (k : Rule) → IsOfRows k → SeenBreaks c k → RefusalCause said c k
+  rows_refuse (rule.Syntax e) among h = absurd among
+  rows_refuse rule.Used among h = absurd among
+  rows_refuse rule.Holder among h = absurd among
+  rows_refuse rule.Authority among h = h
+  rows_refuse rule.AuthorityExpired among h = h
+  rows_refuse rule.Domain among h = h
+  rows_refuse rule.OuterMissing among h = h
+  rows_refuse rule.OuterUnknown among h = h
+  rows_refuse rule.OuterExpired among h = h
+  rows_refuse rule.LiveLimit among h = h
+  rows_refuse rule.Short among h = h
+  rows_refuse rule.Full among h = inl h
+  rows_refuse rule.Inner among h = absurd among
+  rows_refuse rule.Outer among h = absurd among
+
+  verdicts_refuse : (k : Rule) → IsOfVerdicts k → VerdictBreaks said c k → RefusalCause said c k
+  verdicts_refuse (rule.Syntax e) among h = absurd among
+  verdicts_refuse rule.Used among h = absurd among
+  verdicts_refuse rule.Holder among h = absurd among
+  verdicts_refuse rule.Authority among h = absurd among
+  verdicts_refuse rule.AuthorityExpired among h = absurd among
+  verdicts_refuse rule.Domain among h = absurd among
+  verdicts_refuse rule.OuterMissing among h = absurd among
+  verdicts_refuse rule.OuterUnknown among h = absurd among
+  verdicts_refuse rule.OuterExpired among h = absurd among
+  verdicts_refuse rule.LiveLimit among h = absurd among
+  verdicts_refuse rule.Short among h = absurd among
+  verdicts_refuse rule.Full among h = absurd among
+  verdicts_refuse rule.Inner among h = h
+  verdicts_refuse rule.Outer among h = h
+
+  -- ---- a row under the number
+
+  row_decides : (r : Request) (row : Row) (b : Bool) (p : List ℕ) → request_of c.bytes ≡ Ok r → IsAsked table.Issued c.desk r.body.holder row → cond b (answer.Kept p) (answer.Refused rule.Used) ≡ kept_answer row.part c.bytes → AnswerCause said says holds c (cond b (answer.Kept p) (answer.Refused rule.Used))
+  row_decides r row true p read asked is = record { request = r; read = read; row = row; asked = asked; says = is }
+  row_decides r row false p read asked is = record { request = r; read = read; row = row; asked = asked; says = is }
+
+  part_decides : (r : Request) (row : Row) (q : Part) → request_of c.bytes ≡ Ok r → IsAsked table.Issued c.desk r.body.holder row → kept_answer q c.bytes ≡ kept_answer row.part c.bytes → AnswerCause said says holds c (kept_answer q c.bytes)
+  part_decides r row (part.Issued p) read asked is = row_decides r row (bytes_eq p.request c.bytes) p.settled.certificate read asked is
+  part_decides r row (part.Register q d) read asked is = record { request = r; read = read; row = row; asked = asked; says = is }
+  part_decides r row (part.Own p) read asked is = record { request = r; read = read; row = row; asked = asked; says = is }
+  part_decides r row (part.Ca p) read asked is = record { request = r; read = read; row = row; asked = asked; says = is }
+
+  pub says_again : (r : Request) (row : Row) (a : Answer) → request_of c.bytes ≡ Ok r → IsAsked table.Issued c.desk r.body.holder row → a ≡ kept_answer row.part c.bytes → AnswerCause said says holds c a
+  says_again r row a read asked is = subst (λ (x : Answer). AnswerCause said says holds c x) (sym is) (part_decides r row row.part read asked refl)
+
+  -- ---- what was seen, and the verdicts
+
+  pub says_seen : (r : Request) (g : Registration) (seen : Seen) (k : Rule) → HasSeen c r g seen → first_seen c.day r g seen ≡ Some k → AnswerCause said says holds c (answer.Refused k)
+  says_seen r g seen k saw is = rows_refuse k (given IsOfRows _ k is (first_is_of_rows c.day r g seen)) (record { request = r; registration = g; seen = seen; saw = saw; first = is })
+
+  pub says_verdict : (r : Request) (g : Registration) (seen : Seen) (k : Rule) → HasSeen c r g seen → first_seen c.day r g seen ≡ None → verdict_rule said r seen.vouching ≡ Some k → AnswerCause said says holds c (answer.Refused k)
+  says_verdict r g seen k saw clear is = verdicts_refuse k (given IsOfVerdicts _ k is (verdict_is_of_verdicts said r seen.vouching)) (record { request = r; registration = g; seen = seen; saw = saw; unbroken = clear; first = is })
+
+  -- ---- the adding
+
+  module _ (r : Request) (g : Registration) (s : Signer) (days : ℕ × ℕ) (may : MayMake said c r g s days) where
+    asked_for : (row kept : Row) → row.desk ≡ c.desk → row.reference ≡ r.body.holder → table_of row.part ≡ table.Issued → IsAsked (table_of row.part) row.desk row.reference kept → IsAsked table.Issued c.desk r.body.holder kept
+    asked_for row kept d n t h = subst (λ (x : ℕ × List ℕ). IsAsked table.Issued x.0 x.1 kept) (λ i. (d i, n i)) (subst (λ (x : Table). IsAsked x row.desk row.reference kept) t h)
+
+    pub says_added : (made : Made) (row : Row) (a : Answer) → IsMade says (holds (public_key s.key)) r g s days made → row.desk ≡ c.desk → row.reference ≡ r.body.holder → table_of row.part ≡ table.Issued → AddingSays row made.text c.bytes a → AnswerCause said says holds c a
+    says_added made row (answer.Issued p) m d n t h = record {
+      request = r;
+      registration = g;
+      signer = s;
+      days = days;
+      may = may;
+      cert = m.cert;
+      read = ap cert_of h ∙ m.read;
+      body = m.body;
+      signed = m.signed;
+      is_held = m.is_held;
+    }
+    says_added made row (answer.Kept p) m d n t h = says_again r h.kept (answer.Kept p) may.cleared.saw.admitted.read (asked_for row h.kept d n t h.asked) h.says
+    says_added made row (answer.Refused k) m d n t (inl h) = says_again r h.kept (answer.Refused k) may.cleared.saw.admitted.read (asked_for row h.kept d n t h.asked) h.says
+    says_added made row (answer.Refused k) m d n t (inr h) = subst (λ (x : Rule). RefusalCause said c x) (sym h) (inr (record { request = r; registration = g; signer = s; days = days; may = may }))
+
+-- ---- the adding, by what the keeper answered
+
+stands_refuses : (row : Row) (certificate bytes : List ℕ) (kept : Row) → IsAsked (table_of row.part) row.desk row.reference kept → (a : Answer) → (p : List ℕ) (b : Bool) → a ≡ kept_answer kept.part bytes → a ≡ cond b (answer.Kept p) (answer.Refused rule.Used) → AddingSays row certificate bytes a
+stands_refuses row certificate bytes kept asked a p true says is = subst (λ (x : Answer). AddingSays row certificate bytes x) (sym is) (record { kept = kept; asked = asked; says = sym is ∙ says })
+stands_refuses row certificate bytes kept asked a p false says is = subst (λ (x : Answer). AddingSays row certificate bytes x) (sym is) (inl (record { kept = kept; asked = asked; says = sym is ∙ says }))
+
+stands_says : (row : Row) (certificate bytes : List ℕ) (kept : Row) → IsAsked (table_of row.part) row.desk row.reference kept → (q : Part) → kept_answer q bytes ≡ kept_answer kept.part bytes → AddingSays row certificate bytes (kept_answer q bytes)
+stands_says row certificate bytes kept asked (part.Issued p) is = stands_refuses row certificate bytes kept asked _ p.settled.certificate (bytes_eq p.request bytes) is refl
+stands_says row certificate bytes kept asked (part.Register r d) is = inl (record { kept = kept; asked = asked; says = is })
+stands_says row certificate bytes kept asked (part.Own p) is = inl (record { kept = kept; asked = asked; says = is })
+stands_says row certificate bytes kept asked (part.Ca p) is = inl (record { kept = kept; asked = asked; says = is })
+
+adding_says : {U : Type 0} (row : Row) (certificate bytes : List ℕ) (added : Result U KeepRefusal) → AddAsked row added → IfOk (added_answer added certificate bytes) (AddingSays row certificate bytes)
+adding_says row certificate bytes (Ok u) h = refl
+adding_says row certificate bytes (Err (refusal.Twice kept)) h = stands_says row certificate bytes kept h kept.part refl
+adding_says row certificate bytes (Err refusal.Full) h = inr refl
+adding_says row certificate bytes (Err refusal.Failed) h = tt
+adding_says row certificate bytes (Err refusal.Absent) h = tt
+adding_says row certificate bytes (Err refusal.NoMemory) h = tt
+
+pub entered_says : {U : Type 0} (row : Row) (certificate bytes : List ℕ) (added : Result U KeepRefusal) (result : Result Answer IssueFault) → AddAsked row added → result ≡ added_answer added certificate bytes → IfOk result (AddingSays row certificate bytes)
+entered_says row certificate bytes added result h is = subst (λ (x : Result Answer IssueFault). IfOk x (AddingSays row certificate bytes)) (sym is) (adding_says row certificate bytes added h)
+
+-- ---- the making and the adding
+
+module _ (says : Says) (holds : Holds) (desk : ℕ) (bytes : List ℕ) (r : Request) (g : Registration) (s : Signer) (days : ℕ × ℕ) where
+  abbrev WhereMade : Result Answer IssueFault → Type 0
+  WhereMade result = (said : Says) → (c : Case) → c.desk ≡ desk → c.bytes ≡ bytes → MayMake said c r g s days → Answered said says holds c result
+
+  pub answered_entered : (kept : List ℕ) (made : Made) (row : Row) (result : Result Answer IssueFault) → IsMade says (holds (public_key s.key)) r g s days made →
+      row ≡ record { desk = desk; reference = r.body.holder; part = part.Issued (record { request = kept; key = r.body.key; settled = made.settled }) } → IfOk result (AddingSays row made.text bytes) → WhereMade result
+  answered_entered kept made row (Ok a) m is h said c d b may =
+      says_added said says holds c r g s days may made row a m ((λ i. (is i).desk) ∙ sym d) (λ i. (is i).reference) (λ i. table_of (is i).part) (subst (λ (x : List ℕ). AddingSays row made.text x a) (sym b) h)
+  answered_entered kept made row (Err f) m is h said c d b may = tt
+
+  -- ---- the row that signs and the dates
+
+  pub answered_due : (day : ℕ) (signing : Option Signer) (v : Option (ℕ × ℕ)) (result : Result Answer IssueFault) → signing ≡ Some s → v ≡ validity day g.days s.settled.until (minimum_days g.role) → v ≡ Some days → WhereMade result →
+      (said : Says) → (c : Case) → (seen : Seen) → c.desk ≡ desk → c.day ≡ day → c.bytes ≡ bytes → seen.signing ≡ signing → IsCleared said c r g seen → Answered said says holds c result
+  answered_due day signing v result is dates some f said c seen d y b same h = f said c d b (record {
+    seen = seen;
+    cleared = h;
+    signing = same ∙ is;
+    dates = (λ i. validity (y i) g.days s.settled.until (minimum_days g.role)) ∙ sym dates ∙ some;
+  })
+
+module _ (c : Case) (r : Request) (g : Registration) (seen : Seen) (clear : first_seen c.day r g seen ≡ None) where
+  unbroken : NoneBroken (is_none seen.signing) (is_short c.day g seen.signing) (nat_le most_rows seen.count)
+  unbroken = none_broken (is_none seen.signing) (is_expired_at c.day seen.signing) (has_other_domain r seen.signing)
+      (is_outer_missing g.first r.outer seen.held) (is_outer_unknown r.outer seen.vouching) (is_outer_expired c.day seen.vouching)
+      (nat_le g.live_limit seen.live) (is_short c.day g seen.signing) (nat_le most_rows seen.count) clear
+
+  pub signing_there : {A : Type 0} → seen.signing ≡ None → A
+  signing_there is = absurd (true≢false (sym (ap (λ (o : Option Signer). is_none o) is) ∙ unbroken.authority))
+
+  pub dates_there : {A : Type 0} (s : Signer) → seen.signing ≡ Some s → validity c.day g.days s.settled.until (minimum_days g.role) ≡ None → A
+  dates_there s is none = absurd (true≢false (sym (ap (λ (o : Option (ℕ × ℕ)). is_none o) none) ∙ ap (is_short c.day g) (sym is) ∙ unbroken.short))
+
+-- ---- the verdicts
+
+module _ (said says : Says) (holds : Holds) (desk day : ℕ) (bytes : List ℕ) (r : Request) (g : Registration) (seen : Seen) where
+  abbrev WhereSeen : Result Answer IssueFault → Type 0
+  WhereSeen result = (c : Case) → c.desk ≡ desk → c.day ≡ day → c.bytes ≡ bytes → HasSeen c r g seen → first_seen day r g seen ≡ None → Answered said says holds c result
+
+  clear_on : (c : Case) (o : Option Rule) → c.day ≡ day → first_seen day r g seen ≡ o → first_seen c.day r g seen ≡ o
+  clear_on c o y is = (λ i. first_seen (y i) r g seen) ∙ is
+
+  pub answered_verdict : (k : Rule) → Some k ≡ verdict_rule said r seen.vouching → WhereSeen (Ok (answer.Refused k))
+  answered_verdict k is c d y b saw clear = says_verdict said says holds c r g seen k saw (clear_on c None y clear) (sym is)
+
+  pub answered_agreed : (later : Holds) (result : Result Answer IssueFault) → later ≡ holds → None ≡ verdict_rule said r seen.vouching →
+      ((x : Says) → (c : Case) → (t : Seen) → c.desk ≡ desk → c.day ≡ day → c.bytes ≡ bytes → t.signing ≡ seen.signing → IsCleared x c r g t → Answered x says later c result) → WhereSeen result
+  answered_agreed later result same is f c d y b saw clear = subst (λ (x : Holds). Answered said says x c result) same (f said c seen d y b refl (record { saw = saw; unbroken = clear_on c None y clear; agreed = sym is }))
+
+-- ---- the looks
+
+module _ (said says : Says) (holds : Holds) (desk day : ℕ) (bytes : List ℕ) (r : Request) (g : Registration) where
+  abbrev WhereAdmitted : Result Answer IssueFault → Type 0
+  WhereAdmitted result = (c : Case) → c.desk ≡ desk → c.day ≡ day → c.bytes ≡ bytes → IsAdmitted c r g → Answered said says holds c result
+
+  has_seen : (c : Case) (seen : Seen) → c.desk ≡ desk → c.day ≡ day → IsAdmitted c r g → IsSeenAsked desk day r g seen → HasSeen c r g seen
+  has_seen c seen d y admitted asked = record { admitted = admitted; asked = subst (λ (x : ℕ × ℕ). IsSeenAsked x.0 x.1 r g seen) (λ i. (sym d i, sym y i)) asked }
+
+  pub answered_seen : (seen : Seen) (k : Rule) (first : Option Rule) → IsSeenAsked desk day r g seen → first ≡ first_seen day r g seen → first ≡ Some k → WhereAdmitted (Ok (answer.Refused k))
+  answered_seen seen k first asked is some c d y b admitted = says_seen said says holds c r g seen k (has_seen c seen d y admitted asked) ((λ i. first_seen (y i) r g seen) ∙ sym is ∙ some)
+
+  pub answered_unbroken : (seen : Seen) (first : Option Rule) (result : Result Answer IssueFault) → IsSeenAsked desk day r g seen → first ≡ first_seen day r g seen → first ≡ None →
+      ((c : Case) → c.desk ≡ desk → c.day ≡ day → c.bytes ≡ bytes → HasSeen c r g seen → first_seen day r g seen ≡ None → Answered said says holds c result) → WhereAdmitted result
+  answered_unbroken seen first result asked is none f c d y b admitted = f c d y b (has_seen c seen d y admitted asked) (sym is ∙ none)
+
+-- ---- the registration, and the row of the number
+
+module _ (said says : Says) (holds : Holds) (setup : Roster) (desk day : ℕ) (bytes : List ℕ) (r : Request) where
+  abbrev WhereAsked : Result Answer IssueFault → Type 0
+  WhereAsked result = (c : Case) → c.setup ≡ setup → c.desk ≡ desk → c.day ≡ day → c.bytes ≡ bytes → request_of bytes ≡ Ok r → Answered said says holds c result
+
+  found_is : (c : Case) (holder : List ℕ) (found : Option Registration) → c.setup ≡ setup → c.desk ≡ desk → holder ≡ holder_part r.body.holder → found ≡ registration setup desk holder → registered c r ≡ found
+  found_is c holder found s d h is = (λ i. registration (s i) (d i) (sym h i)) ∙ sym is
+
+  read_on : (c : Case) → c.bytes ≡ bytes → request_of bytes ≡ Ok r → request_of c.bytes ≡ Ok r
+  read_on c b is = ap request_of b ∙ is
+
+  pub answered_unknown : (holder : List ℕ) (found : Option Registration) → holder ≡ holder_part r.body.holder → found ≡ registration setup desk holder → found ≡ None → WhereAsked (Ok (answer.Refused rule.Holder))
+  answered_unknown holder found h is none c s d y b read = record { request = r; read = read_on c b read; unregistered = ap not_registered (found_is c holder found s d h is ∙ none) }
+
+  pub answered_suspended : (g : Registration) (holder : List ℕ) → holder ≡ holder_part r.body.holder → Some g ≡ registration setup desk holder → g.suspended ≡ true → WhereAsked (Ok (answer.Refused rule.Holder))
+  answered_suspended g holder h is out c s d y b read = record { request = r; read = read_on c b read; unregistered = ap not_registered (found_is c holder (Some g) s d h is) ∙ out }
+
+  pub answered_registered : (g : Registration) (holder : List ℕ) (result : Result Answer IssueFault) → holder ≡ holder_part r.body.holder → Some g ≡ registration setup desk holder → g.suspended ≡ false → WhereAdmitted said says holds desk day bytes r g result → WhereAsked result
+  answered_registered g holder result h is active f c s d y b read = f c d y b (record { read = read_on c b read; found = found_is c holder (Some g) s d h is; active = active })
+
+  pub answered_again : (found : Option Row) (row : Row) (a : Answer) → found ≡ Some row → a ≡ kept_answer row.part bytes → IfSome found (IsAsked table.Issued desk r.body.holder) → WhereAsked (Ok a)
+  answered_again found row a some is asked c s d y b read =
+      says_again said says holds c r row a (read_on c b read) (subst (λ (x : ℕ). IsAsked table.Issued x r.body.holder row) (sym d) (subst (λ (x : Option Row). IfSome x (IsAsked table.Issued desk r.body.holder)) some asked)) (is ∙ ap (kept_answer row.part) (sym b))
+
+-- ---- the whole call
+
+module _ (said says : Says) (holds : Holds) (c : Case) where
+  unread_says : (refusal : ReadCvc) → Answers (λ (r : Request). r) refused_cvc (Err refusal) (read_request c.bytes) → Answered said says holds c (unreadable_answer refusal)
+  unread_says (read.Refused e) is = sym (reads c.bytes) ∙ is
+  unread_says read.NoMemory is = tt
+
+  pub answered_unread : (refusal : ReadCvc) (result : Result Answer IssueFault) → result ≡ unreadable_answer refusal → Answers (λ (r : Request). r) refused_cvc (Err refusal) (read_request c.bytes) → Answered said says holds c result
+  answered_unread refusal result is e = subst (λ (x : Result Answer IssueFault). Answered said says holds c x) (sym is) (unread_says refusal e)
