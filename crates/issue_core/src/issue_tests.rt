@@ -3,6 +3,7 @@ ghost use Rattle.std.specs.Prelude.{◌≡◌};
 ghost use Rattle.keeper.specs.Rows.{IsStorable, IsStorableKey, IsStorableSettled};
 
 use crate::deciding::{Seen, first_of_seen};
+use crate::late_keeper::LateKeeper;
 use crate::signing_row::Signing;
 use crate::{Answer, IssueFault, Rule, issue};
 use chat_rights::{Kind, Rights, Role, Template};
@@ -228,6 +229,36 @@ fn a_request_is_issued_and_its_repeat_is_kept(rt: HostRuntime) {
         &mut provider,
     );
     assert!(rt; is_kept(&again));
+}
+
+// Another row under the number came between the look and the adding: it decides.
+#[test]
+fn a_row_that_came_between_is_answered(rt: HostRuntime) {
+    let alloc = rt.alloc();
+    let mut rows = MemoryKeeper::new(alloc, KeeperPlan::new(alloc));
+    keep(&rt, alloc, &mut rows, &own(&rt, alloc, 5));
+    let mut keeper = LateKeeper::new(rows);
+    let mut provider = provider(&rt, alloc, FailPlan::new(alloc), true);
+    let setup = setup(&rt, alloc, BARE);
+    let today = day(&rt, b"240101");
+    let first = issue(alloc, &setup, 0, today, REQUEST, &mut keeper, &mut provider);
+    assert!(rt; is_issued(&first));
+    let again = issue(alloc, &setup, 0, today, REQUEST, &mut keeper, &mut provider);
+    assert!(rt; is_kept(&again));
+}
+
+#[test]
+fn another_request_that_came_between_is_used(rt: HostRuntime) {
+    let alloc = rt.alloc();
+    let mut rows = MemoryKeeper::new(alloc, KeeperPlan::new(alloc));
+    keep(&rt, alloc, &mut rows, &own(&rt, alloc, 5));
+    keep(&rt, alloc, &mut rows, &earlier(&rt, alloc, b"DEDVBUND00001"));
+    let mut keeper = LateKeeper::new(rows);
+    let mut provider = provider(&rt, alloc, FailPlan::new(alloc), true);
+    let setup = setup(&rt, alloc, BARE);
+    let today = day(&rt, b"240101");
+    let answer = issue(alloc, &setup, 0, today, REQUEST, &mut keeper, &mut provider);
+    assert!(rt; broken(&answer) == Some(2));
 }
 
 // The first verdict is the fifth call of the provider.
