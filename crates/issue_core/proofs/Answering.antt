@@ -11,7 +11,7 @@ use Rattle.cvc_grammar.specs.declared.refusal.ReadCvc.{ReadCvc}
 use Rattle.cvc_grammar.specs.declared.refusal.ReadCvc.TheVariants as read
 use Rattle.cvc_grammar.specs.RequestOrder.{read_request}
 use Rattle.cvc_grammar.specs.Views.{refused_cvc}
-use Rattle.policy_limits.specs.Roster.{Roster, registration}
+use Rattle.policy_limits.specs.Roster.{registration}
 use Rattle.policy_limits.specs.Validity.{validity, minimum_days}
 use Rattle.policy_limits.specs.declared.registration.Registration.{Registration}
 use Rattle.keeper.specs.declared.rows.Row.{Row}
@@ -30,10 +30,11 @@ use Rattle.issue_core.specs.declared.making.Made.{Made}
 use Rattle.issue_core.specs.declared.deciding.Seen.{Seen}
 use Rattle.issue_core.specs.declared.issuing.Answer.{Answer}
 use Rattle.issue_core.specs.declared.issuing.Answer.TheVariants as answer
+use Rattle.issue_core.specs.declared.issuing.Call.{Call}
 use Rattle.issue_core.specs.Asked.{request_of, cert_of}
 use Rattle.issue_core.specs.Rules.{Case, Signer, Voucher, registered, not_registered}
 use Rattle.issue_core.specs.SeenRules.{first_seen, in_order, is_short, is_expired_at, has_other_domain, is_outer_missing, is_outer_unknown, is_outer_expired, inner_says, outer_says, outer_rule, verdict_rule}
-use Rattle.issue_core.specs.Issues.{IsMade, unreadable_answer, kept_answer, added_answer}
+use Rattle.issue_core.specs.Issues.{IsCaseOf, IsMade, unreadable_answer, kept_answer, added_answer}
 use Rattle.issue_core.specs.AnswerCauses.{IsSeenAsked, IsAdmitted, HasSeen, IsCleared, MayMake, SeenBreaks, VerdictBreaks, RefusalCause, AnswerCause, Answered, AddingSays}
 use Rattle.issue_core.proofs.LookedBy.{NoneBroken, none_broken}
 use Rattle.issue_core.proofs.Messages.{reads}
@@ -193,25 +194,25 @@ entered_says row certificate bytes added result h is = subst (λ (x : Result Ans
 
 -- ---- the making and the adding
 
-module _ (says : Says) (holds : Holds) (desk : ℕ) (bytes : List ℕ) (r : Request) (g : Registration) (s : Signer) (days : ℕ × ℕ) where
+module _ (says : Says) (holds : Holds) (call : Call) (r : Request) (g : Registration) (s : Signer) (days : ℕ × ℕ) where
   abbrev WhereMade : Result Answer IssueFault → Type 0
-  WhereMade result = (said : Says) → (c : Case) → c.desk ≡ desk → c.bytes ≡ bytes → MayMake said c r g s days → Answered said says holds c result
+  WhereMade result = (said : Says) → (c : Case) → IsCaseOf c call → MayMake said c r g s days → Answered said says holds c result
 
   pub answered_entered : (kept : List ℕ) (made : Made) (row : Row) (result : Result Answer IssueFault) → IsMade says (holds (public_key s.key)) r g s days made →
-      row ≡ record { desk = desk; reference = r.body.holder; part = part.Issued (record { request = kept; key = r.body.key; settled = made.settled }) } → IfOk result (AddingSays row made.text bytes) → WhereMade result
-  answered_entered kept made row (Ok a) m is h said c d b may =
-      says_added said says holds c r g s days may made row a m ((λ i. (is i).desk) ∙ sym d) (λ i. (is i).reference) (λ i. table_of (is i).part) (subst (λ (x : List ℕ). AddingSays row made.text x a) (sym b) h)
-  answered_entered kept made row (Err f) m is h said c d b may = tt
+      row ≡ record { desk = call.desk; reference = r.body.holder; part = part.Issued (record { request = kept; key = r.body.key; settled = made.settled }) } → IfOk result (AddingSays row made.text call.bytes.now) → WhereMade result
+  answered_entered kept made row (Ok a) m is h said c its may =
+      says_added said says holds c r g s days may made row a m ((λ i. (is i).desk) ∙ sym its.desk) (λ i. (is i).reference) (λ i. table_of (is i).part) (subst (λ (x : List ℕ). AddingSays row made.text x a) (sym its.bytes) h)
+  answered_entered kept made row (Err f) m is h said c its may = tt
 
   -- ---- the row that signs and the dates
 
-  pub answered_due : (day : ℕ) (signing : Option Signer) (v : Option (ℕ × ℕ)) (result : Result Answer IssueFault) → signing ≡ Some s → v ≡ validity day g.days s.settled.until (minimum_days g.role) → v ≡ Some days → WhereMade result →
-      (said : Says) → (c : Case) → (seen : Seen) → c.desk ≡ desk → c.day ≡ day → c.bytes ≡ bytes → seen.signing ≡ signing → IsCleared said c r g seen → Answered said says holds c result
-  answered_due day signing v result is dates some f said c seen d y b same h = f said c d b (record {
+  pub answered_due : (signing : Option Signer) (v : Option (ℕ × ℕ)) (result : Result Answer IssueFault) → signing ≡ Some s → v ≡ validity call.day g.days s.settled.until (minimum_days g.role) → v ≡ Some days → WhereMade result →
+      (said : Says) → (c : Case) → (seen : Seen) → IsCaseOf c call → seen.signing ≡ signing → IsCleared said c r g seen → Answered said says holds c result
+  answered_due signing v result is dates some f said c seen its same h = f said c its (record {
     seen = seen;
     cleared = h;
     signing = same ∙ is;
-    dates = (λ i. validity (y i) g.days s.settled.until (minimum_days g.role)) ∙ sym dates ∙ some;
+    dates = (λ i. validity (its.day i) g.days s.settled.until (minimum_days g.role)) ∙ sym dates ∙ some;
   })
 
 module _ (c : Case) (r : Request) (g : Registration) (seen : Seen) (clear : first_seen c.day r g seen ≡ None) where
@@ -228,60 +229,60 @@ module _ (c : Case) (r : Request) (g : Registration) (seen : Seen) (clear : firs
 
 -- ---- the verdicts
 
-module _ (said says : Says) (holds : Holds) (desk day : ℕ) (bytes : List ℕ) (r : Request) (g : Registration) (seen : Seen) where
+module _ (said says : Says) (holds : Holds) (call : Call) (r : Request) (g : Registration) (seen : Seen) where
   abbrev WhereSeen : Result Answer IssueFault → Type 0
-  WhereSeen result = (c : Case) → c.desk ≡ desk → c.day ≡ day → c.bytes ≡ bytes → HasSeen c r g seen → first_seen day r g seen ≡ None → Answered said says holds c result
+  WhereSeen result = (c : Case) → IsCaseOf c call → HasSeen c r g seen → first_seen call.day r g seen ≡ None → Answered said says holds c result
 
-  clear_on : (c : Case) (o : Option Rule) → c.day ≡ day → first_seen day r g seen ≡ o → first_seen c.day r g seen ≡ o
-  clear_on c o y is = (λ i. first_seen (y i) r g seen) ∙ is
+  clear_on : (c : Case) (o : Option Rule) → IsCaseOf c call → first_seen call.day r g seen ≡ o → first_seen c.day r g seen ≡ o
+  clear_on c o its is = (λ i. first_seen (its.day i) r g seen) ∙ is
 
   pub answered_verdict : (k : Rule) → Some k ≡ verdict_rule said r seen.vouching → WhereSeen (Ok (answer.Refused k))
-  answered_verdict k is c d y b saw clear = says_verdict said says holds c r g seen k saw (clear_on c None y clear) (sym is)
+  answered_verdict k is c its saw clear = says_verdict said says holds c r g seen k saw (clear_on c None its clear) (sym is)
 
   pub answered_agreed : (later : Holds) (result : Result Answer IssueFault) → later ≡ holds → None ≡ verdict_rule said r seen.vouching →
-      ((x : Says) → (c : Case) → (t : Seen) → c.desk ≡ desk → c.day ≡ day → c.bytes ≡ bytes → t.signing ≡ seen.signing → IsCleared x c r g t → Answered x says later c result) → WhereSeen result
-  answered_agreed later result same is f c d y b saw clear = subst (λ (x : Holds). Answered said says x c result) same (f said c seen d y b refl (record { saw = saw; unbroken = clear_on c None y clear; agreed = sym is }))
+      ((x : Says) → (c : Case) → (t : Seen) → IsCaseOf c call → t.signing ≡ seen.signing → IsCleared x c r g t → Answered x says later c result) → WhereSeen result
+  answered_agreed later result same is f c its saw clear = subst (λ (x : Holds). Answered said says x c result) same (f said c seen its refl (record { saw = saw; unbroken = clear_on c None its clear; agreed = sym is }))
 
 -- ---- the looks
 
-module _ (said says : Says) (holds : Holds) (desk day : ℕ) (bytes : List ℕ) (r : Request) (g : Registration) where
+module _ (said says : Says) (holds : Holds) (call : Call) (r : Request) (g : Registration) where
   abbrev WhereAdmitted : Result Answer IssueFault → Type 0
-  WhereAdmitted result = (c : Case) → c.desk ≡ desk → c.day ≡ day → c.bytes ≡ bytes → IsAdmitted c r g → Answered said says holds c result
+  WhereAdmitted result = (c : Case) → IsCaseOf c call → IsAdmitted c r g → Answered said says holds c result
 
-  has_seen : (c : Case) (seen : Seen) → c.desk ≡ desk → c.day ≡ day → IsAdmitted c r g → IsSeenAsked desk day r g seen → HasSeen c r g seen
-  has_seen c seen d y admitted asked = record { admitted = admitted; asked = subst (λ (x : ℕ × ℕ). IsSeenAsked x.0 x.1 r g seen) (λ i. (sym d i, sym y i)) asked }
+  has_seen : (c : Case) (seen : Seen) → IsCaseOf c call → IsAdmitted c r g → IsSeenAsked call.desk call.day r g seen → HasSeen c r g seen
+  has_seen c seen its admitted asked = record { admitted = admitted; asked = subst (λ (x : ℕ × ℕ). IsSeenAsked x.0 x.1 r g seen) (λ i. (sym its.desk i, sym its.day i)) asked }
 
-  pub answered_seen : (seen : Seen) (k : Rule) (first : Option Rule) → IsSeenAsked desk day r g seen → first ≡ first_seen day r g seen → first ≡ Some k → WhereAdmitted (Ok (answer.Refused k))
-  answered_seen seen k first asked is some c d y b admitted = says_seen said says holds c r g seen k (has_seen c seen d y admitted asked) ((λ i. first_seen (y i) r g seen) ∙ sym is ∙ some)
+  pub answered_seen : (seen : Seen) (k : Rule) (first : Option Rule) → IsSeenAsked call.desk call.day r g seen → first ≡ first_seen call.day r g seen → first ≡ Some k → WhereAdmitted (Ok (answer.Refused k))
+  answered_seen seen k first asked is some c its admitted = says_seen said says holds c r g seen k (has_seen c seen its admitted asked) ((λ i. first_seen (its.day i) r g seen) ∙ sym is ∙ some)
 
-  pub answered_unbroken : (seen : Seen) (first : Option Rule) (result : Result Answer IssueFault) → IsSeenAsked desk day r g seen → first ≡ first_seen day r g seen → first ≡ None →
-      ((c : Case) → c.desk ≡ desk → c.day ≡ day → c.bytes ≡ bytes → HasSeen c r g seen → first_seen day r g seen ≡ None → Answered said says holds c result) → WhereAdmitted result
-  answered_unbroken seen first result asked is none f c d y b admitted = f c d y b (has_seen c seen d y admitted asked) (sym is ∙ none)
+  pub answered_unbroken : (seen : Seen) (first : Option Rule) (result : Result Answer IssueFault) → IsSeenAsked call.desk call.day r g seen → first ≡ first_seen call.day r g seen → first ≡ None →
+      ((c : Case) → IsCaseOf c call → HasSeen c r g seen → first_seen call.day r g seen ≡ None → Answered said says holds c result) → WhereAdmitted result
+  answered_unbroken seen first result asked is none f c its admitted = f c its (has_seen c seen its admitted asked) (sym is ∙ none)
 
 -- ---- the registration, and the row of the number
 
-module _ (said says : Says) (holds : Holds) (setup : Roster) (desk day : ℕ) (bytes : List ℕ) (r : Request) where
+module _ (said says : Says) (holds : Holds) (call : Call) (r : Request) where
   abbrev WhereAsked : Result Answer IssueFault → Type 0
-  WhereAsked result = (c : Case) → c.setup ≡ setup → c.desk ≡ desk → c.day ≡ day → c.bytes ≡ bytes → request_of bytes ≡ Ok r → Answered said says holds c result
+  WhereAsked result = (c : Case) → IsCaseOf c call → request_of call.bytes.now ≡ Ok r → Answered said says holds c result
 
-  found_is : (c : Case) (holder : List ℕ) (found : Option Registration) → c.setup ≡ setup → c.desk ≡ desk → holder ≡ holder_part r.body.holder → found ≡ registration setup desk holder → registered c r ≡ found
-  found_is c holder found s d h is = (λ i. registration (s i) (d i) (sym h i)) ∙ sym is
+  found_is : (c : Case) (holder : List ℕ) (found : Option Registration) → IsCaseOf c call → holder ≡ holder_part r.body.holder → found ≡ registration call.setup.now call.desk holder → registered c r ≡ found
+  found_is c holder found its h is = (λ i. registration (its.setup i) (its.desk i) (sym h i)) ∙ sym is
 
-  read_on : (c : Case) → c.bytes ≡ bytes → request_of bytes ≡ Ok r → request_of c.bytes ≡ Ok r
-  read_on c b is = ap request_of b ∙ is
+  read_on : (c : Case) → IsCaseOf c call → request_of call.bytes.now ≡ Ok r → request_of c.bytes ≡ Ok r
+  read_on c its is = ap request_of its.bytes ∙ is
 
-  pub answered_unknown : (holder : List ℕ) (found : Option Registration) → holder ≡ holder_part r.body.holder → found ≡ registration setup desk holder → found ≡ None → WhereAsked (Ok (answer.Refused rule.Holder))
-  answered_unknown holder found h is none c s d y b read = record { request = r; read = read_on c b read; unregistered = ap not_registered (found_is c holder found s d h is ∙ none) }
+  pub answered_unknown : (holder : List ℕ) (found : Option Registration) → holder ≡ holder_part r.body.holder → found ≡ registration call.setup.now call.desk holder → found ≡ None → WhereAsked (Ok (answer.Refused rule.Holder))
+  answered_unknown holder found h is none c its read = record { request = r; read = read_on c its read; unregistered = ap not_registered (found_is c holder found its h is ∙ none) }
 
-  pub answered_suspended : (g : Registration) (holder : List ℕ) → holder ≡ holder_part r.body.holder → Some g ≡ registration setup desk holder → g.suspended ≡ true → WhereAsked (Ok (answer.Refused rule.Holder))
-  answered_suspended g holder h is out c s d y b read = record { request = r; read = read_on c b read; unregistered = ap not_registered (found_is c holder (Some g) s d h is) ∙ out }
+  pub answered_suspended : (g : Registration) (holder : List ℕ) → holder ≡ holder_part r.body.holder → Some g ≡ registration call.setup.now call.desk holder → g.suspended ≡ true → WhereAsked (Ok (answer.Refused rule.Holder))
+  answered_suspended g holder h is out c its read = record { request = r; read = read_on c its read; unregistered = ap not_registered (found_is c holder (Some g) its h is) ∙ out }
 
-  pub answered_registered : (g : Registration) (holder : List ℕ) (result : Result Answer IssueFault) → holder ≡ holder_part r.body.holder → Some g ≡ registration setup desk holder → g.suspended ≡ false → WhereAdmitted said says holds desk day bytes r g result → WhereAsked result
-  answered_registered g holder result h is active f c s d y b read = f c d y b (record { read = read_on c b read; found = found_is c holder (Some g) s d h is; active = active })
+  pub answered_registered : (g : Registration) (holder : List ℕ) (result : Result Answer IssueFault) → holder ≡ holder_part r.body.holder → Some g ≡ registration call.setup.now call.desk holder → g.suspended ≡ false → WhereAdmitted said says holds call r g result → WhereAsked result
+  answered_registered g holder result h is active f c its read = f c its (record { read = read_on c its read; found = found_is c holder (Some g) its h is; active = active })
 
-  pub answered_again : (found : Option Row) (row : Row) (a : Answer) → found ≡ Some row → a ≡ kept_answer row.part bytes → IfSome found (IsAsked table.Issued desk r.body.holder) → WhereAsked (Ok a)
-  answered_again found row a some is asked c s d y b read =
-      says_again said says holds c r row a (read_on c b read) (subst (λ (x : ℕ). IsAsked table.Issued x r.body.holder row) (sym d) (subst (λ (x : Option Row). IfSome x (IsAsked table.Issued desk r.body.holder)) some asked)) (is ∙ ap (kept_answer row.part) (sym b))
+  pub answered_again : (found : Option Row) (row : Row) (a : Answer) → found ≡ Some row → a ≡ kept_answer row.part call.bytes.now → IfSome found (IsAsked table.Issued call.desk r.body.holder) → WhereAsked (Ok a)
+  answered_again found row a some is asked c its read =
+      says_again said says holds c r row a (read_on c its read) (subst (λ (x : ℕ). IsAsked table.Issued x r.body.holder row) (sym its.desk) (subst (λ (x : Option Row). IfSome x (IsAsked table.Issued call.desk r.body.holder)) some asked)) (is ∙ ap (kept_answer row.part) (sym its.bytes))
 
 -- ---- the whole call
 

@@ -34,6 +34,7 @@ use Rattle.issue_core.specs.declared.rule.Rule.TheVariants as rule
 use Rattle.issue_core.specs.declared.serving.IssueFault.{IssueFault}
 use Rattle.issue_core.specs.declared.serving.IssueFault.TheVariants as fault
 use Rattle.issue_core.specs.declared.making.Made.{Made}
+use Rattle.issue_core.specs.declared.issuing.Call.{Call}
 use Rattle.issue_core.specs.declared.issuing.Answer.{Answer}
 use Rattle.issue_core.specs.declared.issuing.Answer.TheVariants as answer
 
@@ -65,6 +66,13 @@ abbrev pub case_of : Says → Roster → (desk day : ℕ) → List ℕ → List 
 case_of says setup desk day bytes rows =
     let c : Case = bare_case setup desk day bytes rows in
     record c { inner = inner_said says (request_of bytes); outer = outer_bit says (faces issuing (entries_at desk rows)) c (request_of bytes) }
+
+-- this is the case of a call, whatever rows and verdicts it has
+pub record IsCaseOf (c : Case) (call : Call) : Type 0 where
+  pub setup : c.setup ≡ call.setup.now
+  pub desk : c.desk ≡ call.desk
+  pub day : c.day ≡ call.day
+  pub bytes : c.bytes ≡ call.bytes.now
 
 -- ---- the key to sign with
 

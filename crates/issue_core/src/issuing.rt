@@ -11,7 +11,7 @@ ghost use Rattle.issue_core.specs.SeenRules.{first_seen};
 ghost use Rattle.issue_core.specs.declared.deciding.Seen.{Seen};
 ghost use Rattle.issue_core.specs.IssueRows.{AreReadable};
 ghost use Rattle.issue_core.specs.Looks.{KeeperCaused};
-ghost use Rattle.issue_core.specs.Issues.{unreadable_answer, kept_answer, added_answer, IssueCause, StaysTrue, Enters, Serves, outcome_of, case_of, bare_case};
+ghost use Rattle.issue_core.specs.Issues.{IsCaseOf, unreadable_answer, kept_answer, added_answer, IssueCause, StaysTrue, Enters, Serves, outcome_of, case_of, bare_case};
 ghost use Rattle.issue_core.specs.AnswerCauses.{IsAdmitted, HasSeen, IsCleared, MayMake, Answered, AddingSays};
 ghost use Rattle.issue_core.specs.IssueSteps.{Ready, Allowed, Passed, Looked, Fresh, WasRead, ByLists};
 
@@ -38,6 +38,15 @@ pub enum Answer {
     Kept(Octets),
     /// The first rule that is broken.
     Refused(Rule),
+}
+
+// One request at a desk, on a day.
+#[derive(Clone, Copy)]
+struct Call<'a> {
+    setup: &'a Setup,
+    desk: u32,
+    day: Day,
+    bytes: &'a [u8],
 }
 
 fn unreadable(refusal: ReadCvc) -> Result<Answer, IssueFault>
@@ -131,8 +140,7 @@ fn issued_row(desk: u32, read: Request, request: Octets, settled: Settled) -> Ro
 // The certificate is made, then its row is added.
 fn serve_made<B: Keeper, P: SignatureProvider>(
     alloc: Global,
-    desk: u32,
-    request: &[u8],
+    call: &Call,
     read: Request,
     registration: &Registration,
     signing: &Signing,
@@ -140,22 +148,22 @@ fn serve_made<B: Keeper, P: SignatureProvider>(
     keeper: &mut B,
     provider: &mut P,
 ) -> Result<Answer, IssueFault>
-    requires { IsRequest read request.now }
-    ensures told { Told (B.rows keeper.old) (B.rows keeper.new) (λ before after. (c : Case) → c.desk ≡ desk → c.bytes ≡ request.now → Ready c read registration.now signing.now days before →
+    requires { IsRequest read call.now.bytes.now }
+    ensures told { Told (B.rows keeper.old) (B.rows keeper.new) (λ before after. (c : Case) → IsCaseOf c call.now → Ready c read registration.now signing.now days before →
         Serves (P.says provider.new) (P.holds provider.old) c (outcome_of result) (B.faults keeper.old, B.faults keeper.new) (P.faults provider.old, P.faults provider.new) before after) }
-    ensures answered { (said : Says) → (c : Case) → c.desk ≡ desk → c.bytes ≡ request.now → MayMake said c read registration.now signing.now days → Answered said (P.says provider.new) (P.holds provider.old) c result }
+    ensures answered { (said : Says) → (c : Case) → IsCaseOf c call.now → MayMake said c read registration.now signing.now days → Answered said (P.says provider.new) (P.holds provider.old) c result }
     ensures cause { IssueCause (P.holds provider.old) (B.faults keeper.old, B.faults keeper.new) (P.faults provider.old, P.faults provider.new) result }
     ensures provider { StaysTrue (P.says provider.old) (P.says provider.new) (P.holds provider.old) (P.holds provider.new) (P.signed provider.old) (P.signed provider.new) }
 {
-    let Ok(kept) = Octets::from_slice(alloc, request) else {
+    let Ok(kept) = Octets::from_slice(alloc, call.bytes) else {
         return Err(IssueFault::NoMemory);
     };
     match make(alloc, &read, registration, signing, days, provider) {
         Err(fault) => Err(fault),
         Ok(made) => {
             let Made { text, settled } = made;
-            let row = issued_row(desk, read, kept, settled);
-            enter(alloc, &row, text, request, keeper)
+            let row = issued_row(call.desk, read, kept, settled);
+            enter(alloc, &row, text, call.bytes, keeper)
         }
     }
 }
@@ -163,19 +171,17 @@ fn serve_made<B: Keeper, P: SignatureProvider>(
 // No rule is broken: the two tests come again, for what they give.
 fn serve_due<B: Keeper, P: SignatureProvider>(
     alloc: Global,
-    desk: u32,
-    day: Day,
-    request: &[u8],
+    call: &Call,
     read: Request,
     registration: &Registration,
     signing: &Option<Signing>,
     keeper: &mut B,
     provider: &mut P,
 ) -> Result<Answer, IssueFault>
-    requires { IsRequest read request.now }
-    ensures told { Told (B.rows keeper.old) (B.rows keeper.new) (λ before after. (c : Case) → c.desk ≡ desk → c.day ≡ day → c.bytes ≡ request.now → Allowed c read registration.now signing.now before →
+    requires { IsRequest read call.now.bytes.now }
+    ensures told { Told (B.rows keeper.old) (B.rows keeper.new) (λ before after. (c : Case) → IsCaseOf c call.now → Allowed c read registration.now signing.now before →
         Serves (P.says provider.new) (P.holds provider.old) c (outcome_of result) (B.faults keeper.old, B.faults keeper.new) (P.faults provider.old, P.faults provider.new) before after) }
-    ensures answered { (said : Says) → (c : Case) → (seen : Seen) → c.desk ≡ desk → c.day ≡ day → c.bytes ≡ request.now → seen.signing ≡ signing.now → IsCleared said c read registration.now seen → Answered said (P.says provider.new) (P.holds provider.old) c result }
+    ensures answered { (said : Says) → (c : Case) → (seen : Seen) → IsCaseOf c call.now → seen.signing ≡ signing.now → IsCleared said c read registration.now seen → Answered said (P.says provider.new) (P.holds provider.old) c result }
     ensures cause { IssueCause (P.holds provider.old) (B.faults keeper.old, B.faults keeper.new) (P.faults provider.old, P.faults provider.new) result }
     ensures provider { StaysTrue (P.says provider.old) (P.says provider.new) (P.holds provider.old) (P.holds provider.new) (P.signed provider.old) (P.signed provider.new) }
 {
@@ -183,7 +189,7 @@ fn serve_due<B: Keeper, P: SignatureProvider>(
         None => Ok(Answer::Refused(Rule::Authority)),
         Some(signing) => {
             match validity(
-                day,
+                call.day,
                 registration.days,
                 signing.settled.until,
                 minimum_days(registration.role),
@@ -191,8 +197,7 @@ fn serve_due<B: Keeper, P: SignatureProvider>(
                 None => Ok(Answer::Refused(Rule::Short)),
                 Some(days) => serve_made(
                     alloc,
-                    desk,
-                    request,
+                    call,
                     read,
                     registration,
                     signing,
@@ -208,19 +213,17 @@ fn serve_due<B: Keeper, P: SignatureProvider>(
 // No rule up to 12 is broken: the provider is asked for its verdicts.
 fn serve_allowed<B: Keeper, P: SignatureProvider>(
     alloc: Global,
-    desk: u32,
-    day: Day,
-    request: &[u8],
+    call: &Call,
     read: Request,
     registration: &Registration,
     seen: &Seen,
     keeper: &mut B,
     provider: &mut P,
 ) -> Result<Answer, IssueFault>
-    requires { IsRequest read request.now }
-    ensures told { Told (B.rows keeper.old) (B.rows keeper.new) (λ before after. (c : Case) → c.desk ≡ desk → c.day ≡ day → c.bytes ≡ request.now → Passed (P.says provider.old) c read registration.now seen.now before →
+    requires { IsRequest read call.now.bytes.now }
+    ensures told { Told (B.rows keeper.old) (B.rows keeper.new) (λ before after. (c : Case) → IsCaseOf c call.now → Passed (P.says provider.old) c read registration.now seen.now before →
         Serves (P.says provider.new) (P.holds provider.old) c (outcome_of result) (B.faults keeper.old, B.faults keeper.new) (P.faults provider.old, P.faults provider.new) before after) }
-    ensures answered { (c : Case) → c.desk ≡ desk → c.day ≡ day → c.bytes ≡ request.now → HasSeen c read registration.now seen.now → first_seen day read registration.now seen.now ≡ None → Answered (P.says provider.old) (P.says provider.new) (P.holds provider.old) c result }
+    ensures answered { (c : Case) → IsCaseOf c call.now → HasSeen c read registration.now seen.now → first_seen call.now.day read registration.now seen.now ≡ None → Answered (P.says provider.old) (P.says provider.new) (P.holds provider.old) c result }
     ensures cause { IssueCause (P.holds provider.old) (B.faults keeper.old, B.faults keeper.new) (P.faults provider.old, P.faults provider.new) result }
     ensures provider { StaysTrue (P.says provider.old) (P.says provider.new) (P.holds provider.old) (P.holds provider.new) (P.signed provider.old) (P.signed provider.new) }
 {
@@ -229,9 +232,7 @@ fn serve_allowed<B: Keeper, P: SignatureProvider>(
         Ok(Some(rule)) => Ok(Answer::Refused(rule)),
         Ok(None) => serve_due(
             alloc,
-            desk,
-            day,
-            request,
+            call,
             read,
             registration,
             &seen.signing,
@@ -244,36 +245,24 @@ fn serve_allowed<B: Keeper, P: SignatureProvider>(
 // The holder is registered, and its number is new.
 fn serve_registered<B: Keeper, P: SignatureProvider>(
     alloc: Global,
-    desk: u32,
-    day: Day,
-    request: &[u8],
+    call: &Call,
     read: Request,
     registration: &Registration,
     keeper: &mut B,
     provider: &mut P,
 ) -> Result<Answer, IssueFault>
-    requires { IsRequest read request.now }
-    ensures told { Told (B.rows keeper.old) (B.rows keeper.new) (λ before after. (c : Case) → c.desk ≡ desk → c.day ≡ day → c.bytes ≡ request.now → Looked (P.says provider.old) c read registration.now before →
+    requires { IsRequest read call.now.bytes.now }
+    ensures told { Told (B.rows keeper.old) (B.rows keeper.new) (λ before after. (c : Case) → IsCaseOf c call.now → Looked (P.says provider.old) c read registration.now before →
         Serves (P.says provider.new) (P.holds provider.old) c (outcome_of result) (B.faults keeper.old, B.faults keeper.new) (P.faults provider.old, P.faults provider.new) before after) }
-    ensures answered { (c : Case) → c.desk ≡ desk → c.day ≡ day → c.bytes ≡ request.now → IsAdmitted c read registration.now → Answered (P.says provider.old) (P.says provider.new) (P.holds provider.old) c result }
+    ensures answered { (c : Case) → IsCaseOf c call.now → IsAdmitted c read registration.now → Answered (P.says provider.old) (P.says provider.new) (P.holds provider.old) c result }
     ensures cause { IssueCause (P.holds provider.old) (B.faults keeper.old, B.faults keeper.new) (P.faults provider.old, P.faults provider.new) result }
     ensures provider { StaysTrue (P.says provider.old) (P.says provider.new) (P.holds provider.old) (P.holds provider.new) (P.signed provider.old) (P.signed provider.new) }
 {
-    match gather(alloc, desk, day, &read, registration, keeper) {
+    match gather(alloc, call.desk, call.day, &read, registration, keeper) {
         Err(fault) => Err(fault),
-        Ok(seen) => match first_of_seen(day, &read, registration, &seen) {
+        Ok(seen) => match first_of_seen(call.day, &read, registration, &seen) {
             Some(rule) => Ok(Answer::Refused(rule)),
-            None => serve_allowed(
-                alloc,
-                desk,
-                day,
-                request,
-                read,
-                registration,
-                &seen,
-                keeper,
-                provider,
-            ),
+            None => serve_allowed(alloc, call, read, registration, &seen, keeper, provider),
         },
     }
 }
@@ -281,38 +270,26 @@ fn serve_registered<B: Keeper, P: SignatureProvider>(
 // The request's number is new.
 fn serve_new<B: Keeper, P: SignatureProvider>(
     alloc: Global,
-    setup: &Setup,
-    desk: u32,
-    day: Day,
-    request: &[u8],
+    call: &Call,
     read: Request,
     keeper: &mut B,
     provider: &mut P,
 ) -> Result<Answer, IssueFault>
-    requires { IsRequest read request.now }
-    ensures told { Told (B.rows keeper.old) (B.rows keeper.new) (λ before after. (c : Case) → c.setup ≡ setup.now → c.desk ≡ desk → c.day ≡ day → c.bytes ≡ request.now → Fresh (P.says provider.old) c read before →
+    requires { IsRequest read call.now.bytes.now }
+    ensures told { Told (B.rows keeper.old) (B.rows keeper.new) (λ before after. (c : Case) → IsCaseOf c call.now → Fresh (P.says provider.old) c read before →
         Serves (P.says provider.new) (P.holds provider.old) c (outcome_of result) (B.faults keeper.old, B.faults keeper.new) (P.faults provider.old, P.faults provider.new) before after) }
-    ensures answered { (c : Case) → c.setup ≡ setup.now → c.desk ≡ desk → c.day ≡ day → c.bytes ≡ request.now → request_of request.now ≡ Ok read → Answered (P.says provider.old) (P.says provider.new) (P.holds provider.old) c result }
+    ensures answered { (c : Case) → IsCaseOf c call.now → request_of call.now.bytes.now ≡ Ok read → Answered (P.says provider.old) (P.says provider.new) (P.holds provider.old) c result }
     ensures cause { IssueCause (P.holds provider.old) (B.faults keeper.old, B.faults keeper.new) (P.faults provider.old, P.faults provider.new) result }
     ensures provider { StaysTrue (P.says provider.old) (P.says provider.new) (P.holds provider.old) (P.holds provider.new) (P.signed provider.old) (P.signed provider.new) }
 {
     let holder = read.body.holder.holder();
-    match setup.registration(desk, &holder) {
+    match call.setup.registration(call.desk, &holder) {
         None => Ok(Answer::Refused(Rule::Holder)),
         Some(registration) => {
             if registration.suspended {
                 Ok(Answer::Refused(Rule::Holder))
             } else {
-                serve_registered(
-                    alloc,
-                    desk,
-                    day,
-                    request,
-                    read,
-                    registration,
-                    keeper,
-                    provider,
-                )
+                serve_registered(alloc, call, read, registration, keeper, provider)
             }
         }
     }
@@ -321,49 +298,43 @@ fn serve_new<B: Keeper, P: SignatureProvider>(
 // The request was read.
 fn serve_read<B: Keeper, P: SignatureProvider>(
     alloc: Global,
-    setup: &Setup,
-    desk: u32,
-    day: Day,
-    request: &[u8],
+    call: &Call,
     read: Request,
     keeper: &mut B,
     provider: &mut P,
 ) -> Result<Answer, IssueFault>
-    requires { IsRequest read request.now }
-    ensures told { Told (B.rows keeper.old) (B.rows keeper.new) (λ before after. (c : Case) → c.setup ≡ setup.now → c.desk ≡ desk → c.day ≡ day → c.bytes ≡ request.now → WasRead (P.says provider.old) c read before →
+    requires { IsRequest read call.now.bytes.now }
+    ensures told { Told (B.rows keeper.old) (B.rows keeper.new) (λ before after. (c : Case) → IsCaseOf c call.now → WasRead (P.says provider.old) c read before →
         Serves (P.says provider.new) (P.holds provider.old) c (outcome_of result) (B.faults keeper.old, B.faults keeper.new) (P.faults provider.old, P.faults provider.new) before after) }
-    ensures answered { (c : Case) → c.setup ≡ setup.now → c.desk ≡ desk → c.day ≡ day → c.bytes ≡ request.now → request_of request.now ≡ Ok read → Answered (P.says provider.old) (P.says provider.new) (P.holds provider.old) c result }
+    ensures answered { (c : Case) → IsCaseOf c call.now → request_of call.now.bytes.now ≡ Ok read → Answered (P.says provider.old) (P.says provider.new) (P.holds provider.old) c result }
     ensures cause { IssueCause (P.holds provider.old) (B.faults keeper.old, B.faults keeper.new) (P.faults provider.old, P.faults provider.new) result }
     ensures provider { StaysTrue (P.says provider.old) (P.says provider.new) (P.holds provider.old) (P.holds provider.new) (P.signed provider.old) (P.signed provider.new) }
 {
-    match look(alloc, Table::Issued, desk, &read.body.holder, keeper) {
+    match look(alloc, Table::Issued, call.desk, &read.body.holder, keeper) {
         Err(fault) => Err(fault),
-        Ok(Some(row)) => Ok(answer_kept(row, request)),
-        Ok(None) => serve_new(alloc, setup, desk, day, request, read, keeper, provider),
+        Ok(Some(row)) => Ok(answer_kept(row, call.bytes)),
+        Ok(None) => serve_new(alloc, call, read, keeper, provider),
     }
 }
 
 // What is owed of the lists stands in `ByLists`, in which no call is named.
 fn serve<B: Keeper, P: SignatureProvider>(
     alloc: Global,
-    setup: &Setup,
-    desk: u32,
-    day: Day,
-    request: &[u8],
+    call: &Call,
     keeper: &mut B,
     provider: &mut P,
 ) -> Result<Answer, IssueFault>
     ensures told { Told (B.rows keeper.old) (B.rows keeper.new) (λ before after.
-        ByLists (P.says provider.old) (case_of (P.says provider.old) setup.now desk day request.now before) before →
-        Serves (P.says provider.new) (P.holds provider.old) (case_of (P.says provider.old) setup.now desk day request.now before) (outcome_of result)
+        ByLists (P.says provider.old) (case_of (P.says provider.old) call.now.setup.now call.now.desk call.now.day call.now.bytes.now before) before →
+        Serves (P.says provider.new) (P.holds provider.old) (case_of (P.says provider.old) call.now.setup.now call.now.desk call.now.day call.now.bytes.now before) (outcome_of result)
         (B.faults keeper.old, B.faults keeper.new) (P.faults provider.old, P.faults provider.new) before after) }
-    ensures answered { Answered (P.says provider.old) (P.says provider.new) (P.holds provider.old) (bare_case setup.now desk day request.now []) result }
+    ensures answered { Answered (P.says provider.old) (P.says provider.new) (P.holds provider.old) (bare_case call.now.setup.now call.now.desk call.now.day call.now.bytes.now []) result }
     ensures cause { IssueCause (P.holds provider.old) (B.faults keeper.old, B.faults keeper.new) (P.faults provider.old, P.faults provider.new) result }
     ensures provider { StaysTrue (P.says provider.old) (P.says provider.new) (P.holds provider.old) (P.holds provider.new) (P.signed provider.old) (P.signed provider.new) }
 {
-    match read_request(alloc, request) {
+    match read_request(alloc, call.bytes) {
         Err(refusal) => unreadable(refusal),
-        Ok(read) => serve_read(alloc, setup, desk, day, request, read, keeper, provider),
+        Ok(read) => serve_read(alloc, call, read, keeper, provider),
     }
 }
 
@@ -407,5 +378,11 @@ pub fn issue<B: Keeper, P: SignatureProvider>(
     ensures cause { IssueCause (P.holds provider.old) (B.faults keeper.old, B.faults keeper.new) (P.faults provider.old, P.faults provider.new) result }
     ensures provider { StaysTrue (P.says provider.old) (P.says provider.new) (P.holds provider.old) (P.holds provider.new) (P.signed provider.old) (P.signed provider.new) }
 {
-    serve(alloc, setup, desk, day, request, keeper, provider)
+    let call = Call {
+        setup,
+        desk,
+        day,
+        bytes: request,
+    };
+    serve(alloc, &call, keeper, provider)
 }

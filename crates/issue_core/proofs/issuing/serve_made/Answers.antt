@@ -8,19 +8,19 @@ use Rattle.issue_core.proofs.Storable.{row_storable}
 use Rattle.issue_core.proofs.issuing.serve_made.Goals as goal
 
 pub returns-in_default-clause-told : goal.returns-in_default-clause-told
-returns-in_default-clause-told g c = told_unmade _ _ _ _ _ _ _ _ _ _ _ fault.NoMemory tt
+returns-in_default-clause-told g c = told_unmade _ _ _ _ _ _ _ _ _ _ fault.NoMemory tt
 
 pub returns-in-Err-clause-told : goal.returns-in-Err-clause-told
-returns-in-Err-clause-told g c = told_unmade _ _ _ _ _ _ _ _ _ _ _ c.in-Err.fault c.in-Err.ensures.cause.failed
+returns-in-Err-clause-told g c = told_unmade _ _ _ _ _ _ _ _ _ _ c.in-Err.fault c.in-Err.ensures.cause.failed
 
 pub enter-requires : goal.enter-requires
 enter-requires g c = row_storable _ _ _ _ c.in-Ok.kept c.args.read c.args.registration.now c.args.signing.now c.args.days c.in-Ok-make.made c.issued_row-row.result c.requires c.in-Ok.ensures c.in-Ok-make.ensures.made c.issued_row-row.ensures
 
 pub returns-in-Ok-make-clause-told : goal.returns-in-Ok-make-clause-told
-returns-in-Ok-make-clause-told g c = told_entered _ _ _ _ c.args.read c.args.registration.now c.args.signing.now c.args.days _ _ c.in-Ok.kept _ _ c.in-Ok-make.made c.issued_row-row.result c.enter.result c.in-Ok.ensures c.in-Ok-make.ensures.made c.issued_row-row.ensures (keeper_rose _ _ _ c.enter.ensures.cause) c.enter.ensures.told
+returns-in-Ok-make-clause-told g c = told_entered _ _ _ c.args.read c.args.registration.now c.args.signing.now c.args.days _ _ c.in-Ok.kept _ _ c.in-Ok-make.made c.issued_row-row.result c.enter.result c.in-Ok.ensures c.in-Ok-make.ensures.made c.issued_row-row.ensures (keeper_rose _ _ _ c.enter.ensures.cause) c.enter.ensures.told
 
 pub returns-in-Err-clause-cause : goal.returns-in-Err-clause-cause
 returns-in-Err-clause-cause g c = cause_unmade (g.P.SignatureProvider.holds c.args.provider.now) (public_key c.args.signing.now.key) c.args.signing.now.reference _ _ c.in-Err.fault c.make.ensures.cause.later c.in-Err.ensures.cause.failed
 
 pub returns-in-Ok-make-clause-answered : goal.returns-in-Ok-make-clause-answered
-returns-in-Ok-make-clause-answered g c = answered_entered _ (g.P.SignatureProvider.holds c.args.provider.now) c.args.desk c.args.request.now c.args.read c.args.registration.now c.args.signing.now c.args.days c.in-Ok.kept c.in-Ok-make.made c.issued_row-row.result c.enter.result c.in-Ok-make.ensures.made c.issued_row-row.ensures c.enter.ensures.answered
+returns-in-Ok-make-clause-answered g c = answered_entered _ (g.P.SignatureProvider.holds c.args.provider.now) c.args.call.now c.args.read c.args.registration.now c.args.signing.now c.args.days c.in-Ok.kept c.in-Ok-make.made c.issued_row-row.result c.enter.result c.in-Ok-make.ensures.made c.issued_row-row.ensures c.enter.ensures.answered
