@@ -1,6 +1,7 @@
 -- A call of the register is one delivery.
 use Rattle.std.proofs.Common.{◌≡◌, ℕ, ◌<◌, ◌≤◌, Bool, true, false, cond, List, [], ◌∷◌, ◌++◌, length, Some, None, Ok, Err, refl, sym, ap, ◌∙◌, subst, arith, append-nil, ⊎_elim, inl, inr, true≢false, nat_eq}
-use Rattle.std.specs.Prelude.{◌&&◌, IfSome}
+use Rattle.std.specs.Prelude.{◌&&◌, IfSome, nat_le}
+use Rattle.std.proofs.lemmas.Bool.Decides.{nat_tests}
 use Rattle.std.specs.declared.option.Option.{Option}
 use Rattle.std.specs.declared.result.Result.{Result}
 use Rattle.eac_base.specs.Causes.{Rose}
@@ -24,10 +25,24 @@ use Rattle.issue_core.specs.declared.serving.IssueFault.TheVariants.{KeeperFault
 use Rattle.issue_core.specs.Ledger.{Outcome, Issued as IssuedOutcome, Faulted, MayLeave, faces}
 use Rattle.issue_core.specs.Story.{Adds}
 use Rattle.issue_core.specs.Register.{Asked, Fault, KeeperFailed, register, unsigned, delivery_of, Serves, entries_of, bytes_of, day_of, again_of, outcome_of, row_of}
-use Rattle.issue_core.specs.Steps.{Looks, Enters, answer_of}
+use Rattle.issue_core.specs.Steps.{full_answer, row_answer, first_answer, looked, Enters, answer_of}
 use Rattle.issue_core.proofs.Ledger.{Seen, lacks_both, unused, none_lacks, face_count, seen, used_rule, full_rule, no_rule, unique_ledger}
 
 -- ---- what a look answers
+
+if_full : (full : Bool) (answer : RegisterAnswer) → Some answer ≡ cond full (Some (Refused Full)) None → (full ≡ true) × (answer ≡ Refused Full)
+if_full true answer e = (refl, cc)
+if_full false answer e = absurd (cc)
+
+if_room : (full : Bool) → None ≡ cond full (Some (Refused Full)) None → full ≡ false
+if_room true e = absurd (cc)
+if_room false e = refl
+
+full_said : (answer : RegisterAnswer) (count : ℕ) → Some answer ≡ full_answer count → (most_rows ≤ count) × (answer ≡ Refused Full)
+full_said answer count e = let h = if_full (nat_le most_rows count) answer e in let is : nat_le most_rows count ≡ true = h.0 in (grind (arith, nat_tests), h.1)
+
+room_said : (count : ℕ) → None ≡ full_answer count → count < most_rows
+room_said count e = let is : nat_le most_rows count ≡ false = if_room (nat_le most_rows count) e in grind (arith, nat_tests)
 
 unchanged : (after before : List Row) → after ≡ before → after ≡ before ++ []
 unchanged after before e = e ∙ sym (append-nil before)
@@ -60,11 +75,21 @@ serves_full before after asked counts same none full =
     let both = lacks_both (entries_of before) (asked.reference, asked.bytes) (none_lacks before asked.reference none) in
     record { left = None; decides = record { left = tt; told = (both.0, full_rule (faces register (entries_of before)) asked both.1 (subst (λ n. most_rows ≤ n) (face_count before) full)) }; rows = unchanged after before same }
 
-serves_looked : (before after : List Row) (asked : Asked) (counts : ℕ × ℕ) (answer : RegisterAnswer) → UniqueKeys before → after ≡ before → Looks before asked.reference asked.bytes (Ok (Some answer)) → Serves before after asked counts (outcome_of (Ok answer))
-serves_looked before after asked counts answer unique same looked = ⊎_elim
-    (λ (h : (row : Row) × (row_at RegisterTable 0 asked.reference before ≡ Some row) × (answer ≡ again_of row.part asked.bytes)). subst (λ a. Serves before after asked counts (outcome_of (Ok a))) (sym (h.2 ∙ again_found before asked.reference asked.bytes h.0 h.1)) (serves_row (bytes_eq (bytes_of h.0.part) asked.bytes) before after asked counts h.0.part same refl (seen before asked.reference asked.bytes h.0 h.1 (unique_ledger before unique))))
-    (λ (h : (row_at RegisterTable 0 asked.reference before ≡ None) × (most_rows ≤ length (rows_of RegisterTable 0 before)) × (answer ≡ Refused Full)). subst (λ a. Serves before after asked counts (outcome_of (Ok a))) (sym h.2) (serves_full before after asked counts same h.0 h.1))
-    looked
+serves_at : (found : Option Row) (before after : List Row) (asked : Asked) (counts : ℕ × ℕ) (answer : RegisterAnswer) → UniqueKeys before → after ≡ before → row_at RegisterTable 0 asked.reference before ≡ found → Some answer ≡ first_answer (row_answer found asked.bytes) (full_answer (length (rows_of RegisterTable 0 before))) → Serves before after asked counts (outcome_of (Ok answer))
+serves_at (Some row) before after asked counts answer unique same at is =
+    let again : answer ≡ again_of row.part asked.bytes = cc in
+    subst (λ a. Serves before after asked counts (outcome_of (Ok a))) (sym (again ∙ again_found before asked.reference asked.bytes row at)) (serves_row (bytes_eq (bytes_of row.part) asked.bytes) before after asked counts row.part same refl (seen before asked.reference asked.bytes row at (unique_ledger before unique)))
+serves_at None before after asked counts answer unique same at is =
+    let full = full_said answer (length (rows_of RegisterTable 0 before)) is in
+    subst (λ a. Serves before after asked counts (outcome_of (Ok a))) (sym full.1) (serves_full before after asked counts same at full.0)
+
+serves_looked : (before after : List Row) (asked : Asked) (counts : ℕ × ℕ) (answer : RegisterAnswer) → UniqueKeys before → after ≡ before → Some answer ≡ looked before asked.reference asked.bytes → Serves before after asked counts (outcome_of (Ok answer))
+serves_looked before after asked counts answer unique same looked = serves_at (row_at RegisterTable 0 asked.reference before) before after asked counts answer unique same refl looked
+
+-- where nothing is answered, no row has the reference and there is room
+none_at : (found : Option Row) (bytes : List ℕ) (count : ℕ) → None ≡ first_answer (row_answer found bytes) (full_answer count) → (found ≡ None) × (count < most_rows)
+none_at (Some row) bytes count e = absurd (cc)
+none_at None bytes count e = (refl, room_said count e)
 
 -- ---- the adding
 
@@ -101,15 +126,18 @@ entered before after asked counts (Err NoMemory) may h cause = record { left = N
 pub rose_later : (first mid now : ℕ) → first ≤ mid → Rose mid now → Rose first now
 rose_later first mid now a b = omega arith
 
-pub serves_seen : (old new : Option (List Row)) (asked : Asked) (counts : ℕ × ℕ) (found : Option RegisterAnswer) (answer : RegisterAnswer) → found ≡ Some answer → IfSome old UniqueKeys → Told old new (λ before after. (after ≡ before) × Looks before asked.reference asked.bytes (Ok found)) → Told old new (λ before after. Serves before after asked counts (outcome_of (Ok answer)))
+abbrev pub Looks : List Row → List Row → Asked → Option RegisterAnswer → Type 0
+Looks before after asked found = (after ≡ before) × (found ≡ looked before asked.reference asked.bytes)
+
+pub serves_seen : (old new : Option (List Row)) (asked : Asked) (counts : ℕ × ℕ) (found : Option RegisterAnswer) (answer : RegisterAnswer) → found ≡ Some answer → IfSome old UniqueKeys → Told old new (λ before after. Looks before after asked found) → Told old new (λ before after. Serves before after asked counts (outcome_of (Ok answer)))
 serves_seen old None asked counts found answer is unique looked = tt
 serves_seen None (Some after) asked counts found answer is unique looked = absurd looked
-serves_seen (Some before) (Some after) asked counts found answer is unique looked = serves_looked before after asked counts answer unique looked.0 (subst (λ o. Looks before asked.reference asked.bytes (Ok o)) is looked.1)
+serves_seen (Some before) (Some after) asked counts found answer is unique looked = serves_looked before after asked counts answer unique looked.0 (sym is ∙ looked.1)
 
-pub serves_new : (old mid new : Option (List Row)) (asked : Asked) (counts : ℕ × ℕ) (found : Option RegisterAnswer) (result : Result RegisterAnswer IssueFault) → found ≡ None → Told old mid (λ before after. (after ≡ before) × Looks before asked.reference asked.bytes (Ok found)) → Told mid new (λ before after. MayAdd before (row_asked asked) → Enters before after (row_asked asked) result) → (result ≡ Err KeeperFault → Rose counts.0 counts.1) → Told old new (λ before after. Serves before after asked counts (outcome_of result))
+pub serves_new : (old mid new : Option (List Row)) (asked : Asked) (counts : ℕ × ℕ) (found : Option RegisterAnswer) (result : Result RegisterAnswer IssueFault) → found ≡ None → Told old mid (λ before after. Looks before after asked found) → Told mid new (λ before after. MayAdd before (row_asked asked) → Enters before after (row_asked asked) result) → (result ≡ Err KeeperFault → Rose counts.0 counts.1) → Told old new (λ before after. Serves before after asked counts (outcome_of result))
 serves_new old mid new asked counts found result is looked entry cause = told_then _ _ _ old mid new looked entry
-    (λ (before middle after : List Row) (l : (middle ≡ before) × Looks before asked.reference asked.bytes (Ok found)) (e : MayAdd middle (row_asked asked) → Enters middle after (row_asked asked) result).
-    let none : Looks before asked.reference asked.bytes (Ok None) = subst (λ o. Looks before asked.reference asked.bytes (Ok o)) is l.1 in
+    (λ (before middle after : List Row) (l : Looks before middle asked found) (e : MayAdd middle (row_asked asked) → Enters middle after (row_asked asked) result).
+    let none = none_at (row_at RegisterTable 0 asked.reference before) asked.bytes (length (rows_of RegisterTable 0 before)) (sym is ∙ l.1) in
     let may : MayAdd before (row_asked asked) = record { new = none.0; room = none.1 } in
     entered before after asked counts result may (subst (λ rows. MayAdd rows (row_asked asked) → Enters rows after (row_asked asked) result) l.0 e may) cause)
 

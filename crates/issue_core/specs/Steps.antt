@@ -1,5 +1,5 @@
 -- The two steps of a registering: a look at the rows, and the adding (this project's own).
-use Rattle.std.specs.Prelude.{◌≡◌, ◌⊎◌, ℕ, ◌<◌, ◌≤◌, List, [], ◌∷◌, ◌++◌, length, Some, None, Ok, Err}
+use Rattle.std.specs.Prelude.{◌≡◌, ◌⊎◌, ℕ, nat_le, List, [], ◌∷◌, ◌++◌, length, Some, None, Ok, Err, if◌then◌else◌}
 use Rattle.std.specs.declared.option.Option.{Option}
 use Rattle.std.specs.declared.result.Result.{Result}
 use Rattle.keeper.specs.declared.rows.Row.{Row}
@@ -14,12 +14,22 @@ use Rattle.issue_core.specs.declared.serving.IssueFault.{IssueFault}
 use Rattle.issue_core.specs.declared.serving.IssueFault.TheVariants.{KeeperFault, ProviderFault, NoKey, NoMemory}
 use Rattle.issue_core.specs.Register.{again_of, day_of}
 
--- what a look answers: the row of the reference, or a full table, or nothing
-abbrev pub Looks : List Row → List ℕ → List ℕ → Result (Option RegisterAnswer) IssueFault → Type 0
-Looks rows reference bytes (Ok (Some answer)) =
-    ((row : Row) × (row_at RegisterTable 0 reference rows ≡ Some row) × (answer ≡ again_of row.part bytes)) ⊎ ((row_at RegisterTable 0 reference rows ≡ None) × (most_rows ≤ length (rows_of RegisterTable 0 rows)) × (answer ≡ Refused Full))
-Looks rows reference bytes (Ok None) = (row_at RegisterTable 0 reference rows ≡ None) × (length (rows_of RegisterTable 0 rows) < most_rows)
-Looks rows reference bytes (Err fault) = Unit {0}
+-- what is answered where no row has the reference: a full table
+abbrev pub full_answer : ℕ → Option RegisterAnswer
+full_answer count = if nat_le most_rows count then Some (Refused Full) else None
+
+-- what is answered by the row of the reference
+abbrev pub row_answer : Option Row → List ℕ → Option RegisterAnswer
+row_answer (Some row) bytes = Some (again_of row.part bytes)
+row_answer None bytes = None
+
+-- what is answered without an adding: by the row of the reference, else by the count
+abbrev pub first_answer : Option RegisterAnswer → Option RegisterAnswer → Option RegisterAnswer
+first_answer (Some answer) other = Some answer
+first_answer None other = other
+
+abbrev pub looked : List Row → List ℕ → List ℕ → Option RegisterAnswer
+looked rows reference bytes = first_answer (row_answer (row_at RegisterTable 0 reference rows) bytes) (full_answer (length (rows_of RegisterTable 0 rows)))
 
 -- what an adding does to the rows, where the row may be added
 abbrev pub Enters : List Row → List Row → Row → Result RegisterAnswer IssueFault → Type 0

@@ -1,11 +1,14 @@
 // The plain register gives each reference once.
-ghost use Rattle.std.specs.Prelude.{◌≡◌, ◌≤◌, length};
+ghost use Rattle.std.specs.Prelude.{◌≡◌, ◌≤◌, length, IfOk};
 ghost use Rattle.eac_base.specs.Telling.{Told};
 ghost use Rattle.keeper.specs.Keeping.{MayAdd};
+ghost use Rattle.keeper.specs.Rows.{row_at, rows_of};
+ghost use Rattle.keeper.specs.declared.rows.Table.TheVariants.{Register as RegisterTable};
 ghost use Rattle.issue_core.specs.Register.{outcome_of, row_of, Serves, again_of, HasCause};
-ghost use Rattle.issue_core.specs.Steps.{Looks, Enters, answer_of};
+ghost use Rattle.issue_core.specs.Steps.{full_answer, row_answer, looked, Enters, answer_of};
 
 use crate::Rule;
+use crate::fault::fault_of;
 use eac_base::{NoMemory, Octets, is_same};
 use holder_reference::Reference;
 use keeper::{KeepRefusal, Keeper, MOST_ROWS, Part, Row, Table};
@@ -51,32 +54,68 @@ fn answer_again(part: &Part, request: &[u8]) -> RegisterAnswer
     }
 }
 
-// The answer where no row is to be added.
+// What is answered where no row has the reference and the table is full.
+fn full_answer(count: u64) -> Option<RegisterAnswer>
+    ensures { result ≡ full_answer count }
+{
+    if MOST_ROWS <= count {
+        Some(RegisterAnswer::Refused(Rule::Full))
+    } else {
+        None
+    }
+}
+
+// What is answered by the row of the reference, where there is one.
+fn row_answer(found: Option<Row>, request: &[u8]) -> Option<RegisterAnswer>
+    ensures { result ≡ row_answer found request.now }
+{
+    match found {
+        Some(row) => Some(answer_again(&row.part, request)),
+        None => None,
+    }
+}
+
+fn look_at_row<B: Keeper>(
+    alloc: Global,
+    reference: &Reference,
+    request: &[u8],
+    keeper: &mut B,
+) -> Result<Option<RegisterAnswer>, IssueFault>
+    ensures told { Told (B.rows keeper.old) (B.rows keeper.new) (λ before after. (after ≡ before) × IfOk result (λ o. o ≡ row_answer (row_at RegisterTable 0 reference.now before) request.now)) }
+    ensures cause { HasCause (B.faults keeper.old) (B.faults keeper.new) result }
+{
+    match keeper.find(alloc, Table::Register, 0, reference) {
+        Ok(found) => Ok(row_answer(found, request)),
+        Err(refusal) => Err(fault_of(refusal)),
+    }
+}
+
+fn look_at_count<B: Keeper>(
+    alloc: Global,
+    keeper: &mut B,
+) -> Result<Option<RegisterAnswer>, IssueFault>
+    ensures told { Told (B.rows keeper.old) (B.rows keeper.new) (λ before after. (after ≡ before) × IfOk result (λ o. o ≡ full_answer (length (rows_of RegisterTable 0 before)))) }
+    ensures cause { HasCause (B.faults keeper.old) (B.faults keeper.new) result }
+{
+    match keeper.count(alloc, Table::Register, 0) {
+        Ok(count) => Ok(full_answer(count)),
+        Err(refusal) => Err(fault_of(refusal)),
+    }
+}
+
+// The answer where no row is to be added. The row of the reference comes before the count.
 fn look<B: Keeper>(
     alloc: Global,
     reference: &Reference,
     request: &[u8],
     keeper: &mut B,
 ) -> Result<Option<RegisterAnswer>, IssueFault>
-    ensures told { Told (B.rows keeper.old) (B.rows keeper.new) (λ before after. (after ≡ before) × Looks before reference.now request.now result) }
+    ensures told { Told (B.rows keeper.old) (B.rows keeper.new) (λ before after. (after ≡ before) × IfOk result (λ o. o ≡ looked before reference.now request.now)) }
     ensures cause { HasCause (B.faults keeper.old) (B.faults keeper.new) result }
 {
-    match keeper.find(alloc, Table::Register, 0, reference) {
-        Ok(Some(row)) => return Ok(Some(answer_again(&row.part, request))),
-        Ok(None) => {}
-        Err(KeepRefusal::Failed) => return Err(IssueFault::KeeperFault),
-        Err(_) => return Err(IssueFault::NoMemory),
-    }
-    match keeper.count(alloc, Table::Register, 0) {
-        Ok(count) => {
-            if MOST_ROWS <= count {
-                Ok(Some(RegisterAnswer::Refused(Rule::Full)))
-            } else {
-                Ok(None)
-            }
-        }
-        Err(KeepRefusal::Failed) => Err(IssueFault::KeeperFault),
-        Err(_) => Err(IssueFault::NoMemory),
+    match look_at_row(alloc, reference, request, keeper)? {
+        Some(answer) => Ok(Some(answer)),
+        None => look_at_count(alloc, keeper),
     }
 }
 
