@@ -65,15 +65,15 @@ fn close_gate<D: ChipDisk>(disk: &mut D, slot: u64) -> Result<(), Failed>
 }
 
 /// Writes a record behind a closed gate, and syncs.
-fn fill_slot<D: ChipDisk>(disk: &mut D, slot: u64, record: &[u8]) -> Result<(), Failed>
+fn fill_slot<D: ChipDisk>(disk: &mut D, slot: u64, text: &[u8]) -> Result<(), Failed>
     requires range { 8192 * slot + 8192 ≤ D.size disk.old }
     requires slots { slot < 16 }
-    requires short { length record.now ≤ 8191 }
+    requires short { length text.now ≤ 8191 }
     requires spare { 2 ≤ D.spare disk.old }
     ensures works { D.tells disk.old → (old : Reading) → IsFree slot old (D.told disk.old (D.moment disk.old)) →
         Works (ReadsAs old) (D.told disk.old) (D.told disk.new) (D.moment disk.old) (D.moment disk.new) }
     ensures done { OnOk result (D.tells disk.old → (old : Reading) (y : Trust × ℕ) → IsFree slot old (D.told disk.old (D.moment disk.old)) →
-        AreRecord (slots_in (D.told disk.old (D.moment disk.old)).bytes) slot record.now y →
+        AreRecord (slots_in (D.told disk.old (D.moment disk.old)).bytes) slot text.now y →
         IsReady slot old y (D.told disk.new (D.moment disk.new))) }
     ensures tells { D.tells disk.old → D.tells disk.new }
     ensures size { D.size disk.new ≡ D.size disk.old }
@@ -81,7 +81,7 @@ fn fill_slot<D: ChipDisk>(disk: &mut D, slot: u64, record: &[u8]) -> Result<(), 
     ensures spare { D.spare disk.old - 2 ≤ D.spare disk.new }
     ensures cause { HasCause (D.faults disk.old) (D.faults disk.new) result }
 {
-    disk.write_at(8192 * slot + 1, record)?;
+    disk.write_at(8192 * slot + 1, text)?;
     disk.sync()
 }
 
@@ -109,18 +109,18 @@ fn close_and_fill<D: ChipDisk>(
     disk: &mut D,
     slot: u64,
     shown: Gate,
-    record: &[u8],
+    text: &[u8],
 ) -> Result<(), Failed>
     requires range { 8192 * slot + 8192 ≤ D.size disk.old }
     requires slots { slot < 16 }
-    requires short { length record.now ≤ 8191 }
+    requires short { length text.now ≤ 8191 }
     requires spare { 4 ≤ D.spare disk.old }
     ensures works { D.tells disk.old → (old : Reading) → IsSpare slot old (D.told disk.old (D.moment disk.old)) →
         is_open (gate (D.told disk.old (D.moment disk.old)).bytes slot) ≡ seen_gate shown →
         Works (ReadsAs old) (D.told disk.old) (D.told disk.new) (D.moment disk.old) (D.moment disk.new) }
     ensures done { OnOk result (D.tells disk.old → (old : Reading) (y : Trust × ℕ) → IsSpare slot old (D.told disk.old (D.moment disk.old)) →
         is_open (gate (D.told disk.old (D.moment disk.old)).bytes slot) ≡ seen_gate shown →
-        AreRecord (slots_in (D.told disk.old (D.moment disk.old)).bytes) slot record.now y →
+        AreRecord (slots_in (D.told disk.old (D.moment disk.old)).bytes) slot text.now y →
         IsReady slot old y (D.told disk.new (D.moment disk.new))) }
     ensures tells { D.tells disk.old → D.tells disk.new }
     ensures size { D.size disk.new ≡ D.size disk.old }
@@ -129,26 +129,26 @@ fn close_and_fill<D: ChipDisk>(
     ensures cause { HasCause (D.faults disk.old) (D.faults disk.new) result }
 {
     match shown {
-        Gate::Closed => fill_slot(disk, slot, record),
+        Gate::Closed => fill_slot(disk, slot, text),
         Gate::Open => {
             close_gate(disk, slot)?;
-            fill_slot(disk, slot, record)
+            fill_slot(disk, slot, text)
         }
     }
 }
 
 /// Puts a record into a slot that isn't the newest one's. Each image since the call began reads as the old state or as the
 /// record's, and once it answers Ok each one reads as the record's.
-pub fn store<D: ChipDisk>(disk: &mut D, slot: u64, record: &[u8]) -> Result<(), Failed>
+pub fn store<D: ChipDisk>(disk: &mut D, slot: u64, text: &[u8]) -> Result<(), Failed>
     requires range { 8192 * slot + 8192 ≤ D.size disk.old }
     requires slots { slot < 16 }
-    requires short { length record.now ≤ 8191 }
+    requires short { length text.now ≤ 8191 }
     requires spare { 7 ≤ D.spare disk.old }
     ensures works { D.tells disk.old → (old : Reading) (y : Trust × ℕ) → IsSpare slot old (D.told disk.old (D.moment disk.old)) →
-        AreRecord (slots_in (D.told disk.old (D.moment disk.old)).bytes) slot record.now y → IsMore old y →
+        AreRecord (slots_in (D.told disk.old (D.moment disk.old)).bytes) slot text.now y → IsMore old y →
         Works (ReadsEither old (Some y)) (D.told disk.old) (D.told disk.new) (D.moment disk.old) (D.moment disk.new) }
     ensures done { OnOk result (D.tells disk.old → (old : Reading) (y : Trust × ℕ) → IsSpare slot old (D.told disk.old (D.moment disk.old)) →
-        AreRecord (slots_in (D.told disk.old (D.moment disk.old)).bytes) slot record.now y → IsMore old y →
+        AreRecord (slots_in (D.told disk.old (D.moment disk.old)).bytes) slot text.now y → IsMore old y →
         IsStable (Some y) (D.told disk.new (D.moment disk.new))) }
     ensures tells { D.tells disk.old → D.tells disk.new }
     ensures size { D.size disk.new ≡ D.size disk.old }
@@ -157,6 +157,6 @@ pub fn store<D: ChipDisk>(disk: &mut D, slot: u64, record: &[u8]) -> Result<(), 
     ensures cause { HasCause (D.faults disk.old) (D.faults disk.new) result }
 {
     let shown = read_gate(disk, slot)?;
-    close_and_fill(disk, slot, shown, record)?;
+    close_and_fill(disk, slot, shown, text)?;
     open_gate(disk, slot)
 }

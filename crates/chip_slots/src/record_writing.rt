@@ -13,11 +13,11 @@ use chip_verify::{ChipKey, ChipState, TrustPoint};
 /// A record as long as a slot has room for it.
 pub type RecordBytes = ArrayVec<u8, 8191>;
 
-fn put(record: &mut RecordBytes, bytes: &[u8])
-    requires { length record.old.items + length bytes.now ≤ 8191 }
-    ensures { record.new.items ≡ record.old.items ++ bytes.now }
+fn put(text: &mut RecordBytes, bytes: &[u8])
+    requires { length text.old.items + length bytes.now ≤ 8191 }
+    ensures { text.new.items ≡ text.old.items ++ bytes.now }
 {
-    let _ = record.try_extend_from_slice(bytes);
+    let _ = text.try_extend_from_slice(bytes);
 }
 
 fn one_byte(number: usize) -> [u8; 1]
@@ -54,18 +54,18 @@ fn eight_bytes(number: u64) -> [u8; 8]
     ]
 }
 
-fn put_key(record: &mut RecordBytes, key: &ChipKey)
-    requires { length record.old.items + 2054 ≤ 8191 }
-    ensures bytes { record.new.items ≡ record.old.items ++ words.key_text key.now }
-    ensures size { length record.new.items ≤ length record.old.items + 2054 }
+fn put_key(text: &mut RecordBytes, key: &ChipKey)
+    requires { length text.old.items + 2054 ≤ 8191 }
+    ensures bytes { text.new.items ≡ text.old.items ++ words.key_text key.now }
+    ensures size { length text.new.items ≤ length text.old.items + 2054 }
     ensures parts { (length key.now.domain ≤ 1024) × (length key.now.point ≤ 1024) }
 {
     let view = key.view();
-    put(record, &[view.algorithm.arc, view.algorithm.last]);
-    put(record, &two_bytes(view.domain.len() as u64));
-    put(record, view.domain);
-    put(record, &two_bytes(view.point.len() as u64));
-    put(record, view.point);
+    put(text, &[view.algorithm.arc, view.algorithm.last]);
+    put(text, &two_bytes(view.domain.len() as u64));
+    put(text, view.domain);
+    put(text, &two_bytes(view.point.len() as u64));
+    put(text, view.point);
 }
 
 fn role_number(role: Role) -> u8
@@ -87,36 +87,36 @@ fn template_byte(template: Template) -> u8
     64 * role_number(template.role) + template.rights.bits() as u8
 }
 
-fn put_point(record: &mut RecordBytes, point: &TrustPoint)
-    requires { length record.old.items + 2076 ≤ 8191 }
-    ensures bytes { record.new.items ≡ record.old.items ++ words.point_text point.now }
-    ensures size { length record.new.items ≤ length record.old.items + 2076 }
+fn put_point(text: &mut RecordBytes, point: &TrustPoint)
+    requires { length text.old.items + 2076 ≤ 8191 }
+    ensures bytes { text.new.items ≡ text.old.items ++ words.point_text point.now }
+    ensures size { length text.new.items ≤ length text.old.items + 2076 }
     ensures kept { IsPoint point.now → IsTrue (words.is_kept_point point.now) }
 {
     let reference = point.reference.as_slice();
-    put(record, &one_byte(reference.len()));
-    put(record, reference);
-    put(record, &[template_byte(point.template)]);
-    put(record, &two_bytes(point.from.number() as u64));
-    put(record, &two_bytes(point.until.number() as u64));
-    put_key(record, &point.key);
+    put(text, &one_byte(reference.len()));
+    put(text, reference);
+    put(text, &[template_byte(point.template)]);
+    put(text, &two_bytes(point.from.number() as u64));
+    put(text, &two_bytes(point.until.number() as u64));
+    put_key(text, &point.key);
 }
 
-fn put_points(record: &mut RecordBytes, older: &Option<TrustPoint>, newest: &TrustPoint)
-    requires { length record.old.items + 4153 ≤ 8191 }
-    ensures bytes { record.new.items ≡ record.old.items ++ words.points_text older.now newest.now }
-    ensures size { length record.new.items ≤ length record.old.items + 4153 }
+fn put_points(text: &mut RecordBytes, older: &Option<TrustPoint>, newest: &TrustPoint)
+    requires { length text.old.items + 4153 ≤ 8191 }
+    ensures bytes { text.new.items ≡ text.old.items ++ words.points_text older.now newest.now }
+    ensures size { length text.new.items ≤ length text.old.items + 4153 }
     ensures kept { IsPoint newest.now → IfSome older.now (λ p. IsPoint p × ComesBefore p newest.now) → IsTrue (words.are_kept_points older.now newest.now) }
 {
     match older {
         None => {
-            put(record, &[1]);
-            put_point(record, newest);
+            put(text, &[1]);
+            put_point(text, newest);
         }
         Some(older) => {
-            put(record, &[2]);
-            put_point(record, older);
-            put_point(record, newest);
+            put(text, &[2]);
+            put_point(text, older);
+            put_point(text, newest);
         }
     }
 }
@@ -128,10 +128,10 @@ pub fn write_record(state: &ChipState, generation: u64) -> RecordBytes
     ensures kept { IsTrue (words.is_kept_trust state.now) }
 {
     states_are_legal(state);
-    let mut record = RecordBytes::new();
-    put(&mut record, &[1]);
-    put(&mut record, &eight_bytes(generation));
-    put(&mut record, &two_bytes(state.day.number() as u64));
-    put_points(&mut record, &state.older, &state.newest);
-    record
+    let mut text = RecordBytes::new();
+    put(&mut text, &[1]);
+    put(&mut text, &eight_bytes(generation));
+    put(&mut text, &two_bytes(state.day.number() as u64));
+    put_points(&mut text, &state.older, &state.newest);
+    text
 }

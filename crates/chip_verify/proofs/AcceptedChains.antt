@@ -16,7 +16,7 @@ use Rattle.chip_verify.specs.declared.answers.ImportRefusal.TheVariants as refus
 use Rattle.chip_verify.specs.Trust.{Trust, points, older_points, ComesBefore, IsTrust}
 use Rattle.chip_verify.specs.Session.{SessionValue, no_session}
 use Rattle.chip_verify.specs.Later.{IsAmong}
-use Rattle.chip_verify.specs.Refusals.{Sort, Link, OfVerifier, OfTerminal, sort_of, is_link, Issuer, Point, Session_verifier, key_of, older_named, verifier_named, or_else, issuer_of, is_held, template_of, same_algorithm, first_refusal}
+use Rattle.chip_verify.specs.Refusals.{Sort, Link, OfVerifier, OfTerminal, sort_of, is_link, Issuer, Point, Verifier, key_of, older_named, verifier_named, or_else, issuer_of, is_held, template_of, same_algorithm, first_refusal}
 use Rattle.chip_verify.specs.Step.{trust_after, session_after, verified, Step, verdict_under, verdict_on}
 use Rattle.chip_verify.specs.GoodChain.{IsLink, AreLinks, points_with, latest, IsVerifier, IsTerminal, IsNone, GoodChain, Accepts}
 use Rattle.chip_verify.proofs.Links.{step_trust, behind_kind}
@@ -160,9 +160,9 @@ module _ (says : Says) where
   v_session v p = session_after OfVerifier no_session v.body (Point p)
 
   abbrev v_issuer : Cert → TrustPoint → Issuer
-  v_issuer v p = Session_verifier (verified v.body (Point p))
+  v_issuer v p = Verifier (verified v.body (Point p))
 
-  terminal_step : (t : Trust) (v w : Cert) (p : TrustPoint) → IsNone (points t) w.body.authority → IsTerminal says p v t.day w → (let s : SessionValue = session_after OfVerifier no_session v.body (Point p) in Step t s w.body (verdict_on says t s w) (trust_after OfTerminal t s w.body (Session_verifier (verified v.body (Point p)))) (session_after OfTerminal s w.body (Session_verifier (verified v.body (Point p)))))
+  terminal_step : (t : Trust) (v w : Cert) (p : TrustPoint) → IsNone (points t) w.body.authority → IsTerminal says p v t.day w → (let s : SessionValue = session_after OfVerifier no_session v.body (Point p) in Step t s w.body (verdict_on says t s w) (trust_after OfTerminal t s w.body (Verifier (verified v.body (Point p)))) (session_after OfTerminal s w.body (Verifier (verified v.body (Point p)))))
   terminal_step t v w p none h = record {
     issuer = (v_issuer v p);
     named = named;

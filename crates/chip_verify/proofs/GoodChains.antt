@@ -18,7 +18,7 @@ use Rattle.chip_verify.specs.declared.answers.ImportRefusal.TheVariants as refus
 use Rattle.chip_verify.specs.Trust.{Trust, points, older_points, IsTrust}
 use Rattle.chip_verify.specs.Session.{SessionValue, no_session}
 use Rattle.chip_verify.specs.Later.{IsAmong}
-use Rattle.chip_verify.specs.Refusals.{Sort, Link, OfVerifier, OfTerminal, sort_of, Issuer, Point, Session_verifier, older_named, verifier_named, or_else, issuer_of, wrong_role, same_algorithm, first_refusal}
+use Rattle.chip_verify.specs.Refusals.{Sort, Link, OfVerifier, OfTerminal, sort_of, Issuer, Point, Verifier, older_named, verifier_named, or_else, issuer_of, wrong_role, same_algorithm, first_refusal}
 use Rattle.chip_verify.specs.Step.{trust_after, session_after, verified, Step, verdict_under, verdict_on}
 use Rattle.chip_verify.specs.GoodChain.{linked, IsLink, AreLinks, IsVerifier, IsTerminal, IsNone, GoodChain, Accepts, AllLinks, AreInOrder, IsAccepted}
 use Rattle.chip_verify.proofs.AcceptedChains.{good_chain_accepted}
@@ -96,8 +96,8 @@ not_session : (v : Option Verified) (reference : List ℕ) (p : TrustPoint) → 
 not_session None reference p e = absurd (cc)
 not_session (Some u) reference p e = go (bytes_eq u.reference reference) e
   where
-    go : (b : Bool) → cond b (Some (Session_verifier u)) None ≡ Some (Point p) → ⊥
-    go true e' = let i : Session_verifier u ≡ Point p = cc in absurd (cc)
+    go : (b : Bool) → cond b (Some (Verifier u)) None ≡ Some (Point p) → ⊥
+    go true e' = let i : Verifier u ≡ Point p = cc in absurd (cc)
     go false e' = absurd (cc)
 
 -- a point that is the issuer is one of the trust's, with the certificate's authority reference
@@ -122,30 +122,30 @@ pub record BySession (t : Trust) (s : SessionValue) (c : CertBody) (u : Verified
   pub there : s.verifier ≡ Some u
   pub reference : u.reference ≡ c.authority
 
-pub session_found : (t : Trust) (s : SessionValue) (c : CertBody) (u : Verified) → issuer_of t s c ≡ Some (Session_verifier u) → BySession t s c u
+pub session_found : (t : Trust) (s : SessionValue) (c : CertBody) (u : Verified) → issuer_of t s c ≡ Some (Verifier u) → BySession t s c u
 session_found t s c u e = go (bytes_eq t.newest.reference c.authority) refl e
   where
-    of_session : (v : Option Verified) → s.verifier ≡ v → verifier_named v c.authority ≡ Some (Session_verifier u) → (s.verifier ≡ Some u) × (u.reference ≡ c.authority)
+    of_session : (v : Option Verified) → s.verifier ≡ v → verifier_named v c.authority ≡ Some (Verifier u) → (s.verifier ≡ Some u) × (u.reference ≡ c.authority)
     of_session None is e' = absurd (cc)
     of_session (Some x) is e' = pick (bytes_eq x.reference c.authority) refl e'
       where
-        pick : (b : Bool) → bytes_eq x.reference c.authority ≡ b → cond b (Some (Session_verifier x)) None ≡ Some (Session_verifier u) → (s.verifier ≡ Some u) × (u.reference ≡ c.authority)
+        pick : (b : Bool) → bytes_eq x.reference c.authority ≡ b → cond b (Some (Verifier x)) None ≡ Some (Verifier u) → (s.verifier ≡ Some u) × (u.reference ≡ c.authority)
         pick true at e'' =
-            let i : Session_verifier x ≡ Session_verifier u = cc in
+            let i : Verifier x ≡ Verifier u = cc in
             let same : x ≡ u = cc in
             (is ∙ ap Some same, ap (λ (y : Verified). y.reference) (sym same) ∙ bytes_eq-true x.reference c.authority at)
         pick false at e'' = absurd (cc)
 
-    of_older : (o : Option TrustPoint) → or_else (older_named o c.authority) (verifier_named s.verifier c.authority) ≡ Some (Session_verifier u) → IsNone (older_points o) c.authority × ((s.verifier ≡ Some u) × (u.reference ≡ c.authority))
+    of_older : (o : Option TrustPoint) → or_else (older_named o c.authority) (verifier_named s.verifier c.authority) ≡ Some (Verifier u) → IsNone (older_points o) c.authority × ((s.verifier ≡ Some u) × (u.reference ≡ c.authority))
     of_older None e' = (tt, of_session s.verifier refl e')
     of_older (Some q) e' = pick (bytes_eq q.reference c.authority) refl e'
       where
-        pick : (b : Bool) → bytes_eq q.reference c.authority ≡ b → or_else (cond b (Some (Point q)) None) (verifier_named s.verifier c.authority) ≡ Some (Session_verifier u) → IsNone (older_points (Some q)) c.authority × ((s.verifier ≡ Some u) × (u.reference ≡ c.authority))
-        pick true is e'' = let i : Point q ≡ Session_verifier u = cc in absurd (cc)
+        pick : (b : Bool) → bytes_eq q.reference c.authority ≡ b → or_else (cond b (Some (Point q)) None) (verifier_named s.verifier c.authority) ≡ Some (Verifier u) → IsNone (older_points (Some q)) c.authority × ((s.verifier ≡ Some u) × (u.reference ≡ c.authority))
+        pick true is e'' = let i : Point q ≡ Verifier u = cc in absurd (cc)
         pick false is e'' = ((differ q.reference c.authority is, tt), of_session s.verifier refl e'')
 
-    go : (b : Bool) → bytes_eq t.newest.reference c.authority ≡ b → cond b (Some (Point t.newest)) (or_else (older_named t.older c.authority) (verifier_named s.verifier c.authority)) ≡ Some (Session_verifier u) → BySession t s c u
-    go true is e' = let i : Point t.newest ≡ Session_verifier u = cc in absurd (cc)
+    go : (b : Bool) → bytes_eq t.newest.reference c.authority ≡ b → cond b (Some (Point t.newest)) (or_else (older_named t.older c.authority) (verifier_named s.verifier c.authority)) ≡ Some (Verifier u) → BySession t s c u
+    go true is e' = let i : Point t.newest ≡ Verifier u = cc in absurd (cc)
     go false is e' = let r = of_older t.older e' in record { none = (differ t.newest.reference c.authority is, r.0); there = r.1.0; reference = r.1.1 }
 
 module _ (says : Says) where
@@ -161,7 +161,7 @@ module _ (says : Says) where
   verifier_back t v t' s' st sort = go st.issuer refl (subst (λ (p : Sort × Option Issuer). first_refusal p.0 t v.body p.1 ≡ None) (λ j. (sort j, st.named j)) st.allowed)
     where
       go : (i : Issuer) → st.issuer ≡ i → first_refusal OfVerifier t v.body (Some st.issuer) ≡ None → VerifierBack t v t' s'
-      go (Session_verifier u) who refused =
+      go (Verifier u) who refused =
           let at = sym (behind_kind v.body.template.kind u.template.kind refusal.TypeDiffers _) ∙ subst (λ (i : Issuer). first_refusal OfVerifier t v.body (Some i) ≡ None) who refused in
           absurd (cc)
       go (Point p) who refused =
@@ -193,12 +193,12 @@ module _ (says : Says) where
       go (Point q) who refused =
           let at = sym (behind_kind w.body.template.kind q.template.kind refusal.TypeDiffers _) ∙ subst (λ (i : Issuer). first_refusal OfTerminal t w.body (Some i) ≡ None) who refused in
           absurd (cc)
-      go (Session_verifier u) who refused =
+      go (Verifier u) who refused =
           let s : SessionValue = session_after OfVerifier no_session v.body (Point p) in
-          let is : issuer_of t s w.body ≡ Some (Session_verifier u) = st.named ∙ ap Some who in
+          let is : issuer_of t s w.body ≡ Some (Verifier u) = st.named ∙ ap Some who in
           let found = session_found t s w.body u is in
           let same : verified v.body (Point p) ≡ u = let e : Some (verified v.body (Point p)) ≡ Some u = found.there in cc in
-          let at = sym (behind_kind w.body.template.kind v.body.template.kind refusal.TypeDiffers _) ∙ subst (λ (i : Issuer). first_refusal OfTerminal t w.body (Some i) ≡ None) (who ∙ ap Session_verifier (sym same)) refused in
+          let at = sym (behind_kind w.body.template.kind v.body.template.kind refusal.TypeDiffers _) ∙ subst (λ (i : Issuer). first_refusal OfTerminal t w.body (Some i) ≡ None) (who ∙ ap Verifier (sym same)) refused in
           let key = found_none (not (is_empty w.body.key.domain) || not (same_algorithm w.body.key.algorithm v.body.key.algorithm)) _ _ at in
           let parts = either_false (not (is_empty w.body.key.domain)) (not (same_algorithm w.body.key.algorithm v.body.key.algorithm)) key.0 in
           let old = found_none (nat_lt v.body.until t.day) _ _ key.1 in
@@ -209,7 +209,7 @@ module _ (says : Says) where
               issuer = sym (ap (λ (x : Verified). x.reference) same ∙ found.reference);
               alive = (not_before v.body.until t.day old.0, not_before w.body.until t.day own.0);
               key = (same_parts w.body.key.algorithm v.body.key.algorithm parts.1, empty_is w.body.key.domain parts.0);
-              said = sym (ap (λ (o : Option Issuer). verdict_under says o w) (is ∙ ap (λ (x : Verified). Some (Session_verifier x)) (sym same))) ∙ st.yes;
+              said = sym (ap (λ (o : Option Issuer). verdict_under says o w) (is ∙ ap (λ (x : Verified). Some (Verifier x)) (sym same))) ∙ st.yes;
             },
           )
 

@@ -7,7 +7,7 @@ use Rattle.chip_verify.specs.declared.session.Verified.{Verified}
 use Rattle.chip_verify.specs.declared.answers.ImportRefusal.TheVariants as refusal
 use Rattle.chip_verify.specs.Trust.{Trust}
 use Rattle.chip_verify.specs.Session.{SessionValue, no_session, granted_by, granted}
-use Rattle.chip_verify.specs.Refusals.{Sort, Link, OfVerifier, OfTerminal, sort_of, Issuer, Point, Session_verifier, first_refusal}
+use Rattle.chip_verify.specs.Refusals.{Sort, Link, OfVerifier, OfTerminal, sort_of, Issuer, Point, Verifier, first_refusal}
 use Rattle.chip_verify.specs.Step.{session_after, verified, Step}
 use Rattle.chip_verify.specs.Grant.{StandInAll, IsGrant, grant, Accepted, Leads, verifier_at, HasVerifier, EndsWith, Granting}
 use Rattle.chip_verify.proofs.Links.{behind_kind}
@@ -58,7 +58,7 @@ module _ (t : Trust) (s : SessionValue) (c : CertBody) (verdict : Bool) (t' : Tr
   at_has so sort p v x = subst (λ (k : Sort). verifier_at k one (HasVerifier told p v) p v) (sym sort) x
 
   of_verifier : sort_of c.template.role ≡ OfVerifier → (i : Issuer) → st.issuer ≡ i → StandsFor (session_after OfVerifier s c st.issuer) (one ∷ told)
-  of_verifier sort (Session_verifier u) who = let bad = sym (behind_kind c.template.kind u.template.kind refusal.TypeDiffers _) ∙ passed OfVerifier (Session_verifier u) sort who in absurd (cc)
+  of_verifier sort (Verifier u) who = let bad = sym (behind_kind c.template.kind u.template.kind refusal.TypeDiffers _) ∙ passed OfVerifier (Verifier u) sort who in absurd (cc)
   of_verifier sort (Point p) who = record {
     verifier = λ u e. let is : verified c st.issuer ≡ u = cc in record { point = p; body = c; has = at_has OfVerifier sort p c (refl, who); same = sym is ∙ ap (verified c) who };
     terminal = λ r e. absurd (cc);
@@ -68,7 +68,7 @@ module _ (t : Trust) (s : SessionValue) (c : CertBody) (verdict : Bool) (t' : Tr
 
   of_terminal : sort_of c.template.role ≡ OfTerminal → (i : Issuer) → st.issuer ≡ i → StandsFor (session_after OfTerminal s c st.issuer) (one ∷ told)
   of_terminal sort (Point p) who = let bad = sym (behind_kind c.template.kind p.template.kind refusal.TypeDiffers _) ∙ passed OfTerminal (Point p) sort who in absurd (cc)
-  of_terminal sort (Session_verifier u) who =
+  of_terminal sort (Verifier u) who =
       let found = session_found t s c u (st.named ∙ ap Some who) in
       let under = h.verifier u found.there in
       record {

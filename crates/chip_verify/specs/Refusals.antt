@@ -46,35 +46,35 @@ is_link OfTerminal = false
 
 pub data Issuer : Type 0 where
   Point : TrustPoint → Issuer
-  Session_verifier : Verified → Issuer
+  Verifier : Verified → Issuer
 
 abbrev pub is_point : Issuer → Bool
 is_point (Point p) = true
-is_point (Session_verifier v) = false
+is_point (Verifier v) = false
 
 abbrev pub key_of : Issuer → PublicKey
 key_of (Point p) = p.key
-key_of (Session_verifier v) = v.key
+key_of (Verifier v) = v.key
 
 abbrev pub until_of : Issuer → ℕ
 until_of (Point p) = p.until
-until_of (Session_verifier v) = v.until
+until_of (Verifier v) = v.until
 
 abbrev pub template_of : Issuer → Template
 template_of (Point p) = p.template
-template_of (Session_verifier v) = v.template
+template_of (Verifier v) = v.template
 
 -- The rights of the trust point at the issuer's root.
 abbrev pub root_of : Issuer → ℕ
 root_of (Point p) = p.template.rights
-root_of (Session_verifier v) = v.root
+root_of (Verifier v) = v.root
 
 abbrev pub older_named : Option TrustPoint → List ℕ → Option Issuer
 older_named (Some p) reference = if bytes_eq p.reference reference then Some (Point p) else None
 older_named None reference = None
 
 abbrev pub verifier_named : Option Verified → List ℕ → Option Issuer
-verifier_named (Some v) reference = if bytes_eq v.reference reference then Some (Session_verifier v) else None
+verifier_named (Some v) reference = if bytes_eq v.reference reference then Some (Verifier v) else None
 verifier_named None reference = None
 
 abbrev pub or_else : Option Issuer → Option Issuer → Option Issuer

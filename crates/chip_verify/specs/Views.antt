@@ -10,7 +10,7 @@ use Rattle.chip_verify.specs.declared.checking.Weighed.{Weighed}
 use Rattle.chip_verify.specs.declared.checking.Weighed.TheVariants.{Held, Refused, Ask}
 use Rattle.chip_verify.specs.Trust.{Trust}
 use Rattle.chip_verify.specs.Session.{SessionValue}
-use Rattle.chip_verify.specs.Refusals.{Issuer, Point, Session_verifier, issuer_of, is_held, refusal_of}
+use Rattle.chip_verify.specs.Refusals.{Issuer, Point, Verifier, issuer_of, is_held, refusal_of}
 
 -- The view is one of some input.
 abbrev pub IsView : CertView → Type 0
@@ -21,7 +21,7 @@ seen_body v = (seen_cert v).body
 
 abbrev pub seen_issuer : Voucher → Issuer
 seen_issuer (voucher.Point p) = Point p.now
-seen_issuer (voucher.Verifier v) = Session_verifier v.now
+seen_issuer (voucher.Verifier v) = Verifier v.now
 
 -- The certificate may be taken, by this issuer.
 pub record MayBeTaken (t : Trust) (s : SessionValue) (c : CertBody) (i : Issuer) : Type 0 where

@@ -1,4 +1,7 @@
 // What no clause says: that the calls find memory, and the answers of worked examples.
+//
+// Each call of a keeper stands in a function of its own, which hands out plain values, and owned values are let go by a
+// call of `drop`: at the end of a scope each list of bytes in them would be proved apart.
 ghost use Rattle.std.specs.Prelude.{◌≤◌, length};
 ghost use Rattle.keeper.specs.Rows.{IsStorable, IsStorableKey, IsStorableSettled};
 
@@ -102,122 +105,211 @@ fn kept_row(done: Result<(), KeepRefusal>) -> Option<Row> {
     }
 }
 
-fn found_row(found: Result<Option<Row>, KeepRefusal>) -> Option<Row> {
-    match found {
-        Ok(row) => row,
-        Err(_) => None,
-    }
+fn is_done(done: Result<(), KeepRefusal>) -> bool {
+    let is_done = done.is_ok();
+    drop(done);
+    is_done
+}
+
+fn is_absent(done: Result<(), KeepRefusal>) -> bool {
+    let is_absent = matches!(&done, Err(KeepRefusal::Absent));
+    drop(done);
+    is_absent
+}
+
+fn is_failed(done: Result<(), KeepRefusal>) -> bool {
+    let is_failed = matches!(&done, Err(KeepRefusal::Failed));
+    drop(done);
+    is_failed
 }
 
 // How many rows a reading gave.
 fn number(found: Result<Rows, KeepRefusal>) -> Option<usize> {
-    match found {
+    let number = match &found {
         Ok(rows) => Some(rows.len()),
         Err(_) => None,
-    }
+    };
+    drop(found);
+    number
 }
 
-fn is_copied(alloc: Global, row: &Row) -> bool {
+// Whether a list takes the row.
+fn is_copied(alloc: Global, row: Row) -> bool {
     let mut rows = Rows::new(alloc);
-    rows.push(row).is_ok() && rows.len() == 1
+    let is_copied = rows.push(&row).is_ok() && rows.len() == 1;
+    drop(rows);
+    drop(row);
+    is_copied
+}
+
+fn empty_keeper(alloc: Global) -> MemoryKeeper {
+    MemoryKeeper::new(alloc, KeeperPlan::new(alloc))
+}
+
+fn is_first(row: Option<Row>) -> bool {
+    let is_first = match &row {
+        Some(row) => keeps(row, b"\x01\x02", b"240101"),
+        None => false,
+    };
+    drop(row);
+    is_first
+}
+
+fn adds_first(rt: &impl Abort, alloc: Global, keeper: &mut MemoryKeeper) -> bool {
+    let first = row(rt, alloc, b"\x01\x02", *b"240101");
+    let done = keeper.add(alloc, &first);
+    drop(first);
+    is_done(done)
+}
+
+fn answers_second_with_first(rt: &impl Abort, alloc: Global, keeper: &mut MemoryKeeper) -> bool {
+    let second = row(rt, alloc, b"\x03", *b"240102");
+    let done = keeper.add(alloc, &second);
+    drop(second);
+    is_first(kept_row(done))
+}
+
+fn finds_first(rt: &impl Abort, alloc: Global, keeper: &mut MemoryKeeper) -> bool {
+    let reference = reference(rt);
+    let found = keeper.find(alloc, Table::Register, 0, &reference);
+    is_first(found.ok().flatten())
 }
 
 #[test]
 fn a_key_that_is_there_is_answered_with_its_row(rt: HostRuntime) {
     let alloc = rt.alloc();
-    let mut keeper = MemoryKeeper::new(alloc, KeeperPlan::new(alloc));
-    let first = row(&rt, alloc, b"\x01\x02", *b"240101");
-    let second = row(&rt, alloc, b"\x03", *b"240102");
-    assert!(rt; keeper.add(alloc, &first).is_ok());
-    let kept = kept_row(keeper.add(alloc, &second)).expect(&rt, "the key is there");
-    assert!(rt; keeps(&kept, b"\x01\x02", b"240101"));
-    let found = found_row(keeper.find(alloc, Table::Register, 0, &reference(&rt)));
-    assert!(rt;
-        keeps(
-            &found.expect(&rt, "the row is there"),
-            b"\x01\x02",
-            b"240101"
-        )
-    );
-    match keeper.count(alloc, Table::Register, 0) {
-        Ok(count) => assert_eq!(rt; count, 1),
-        Err(_) => panic!(rt; "memory is there"),
-    }
+    let mut keeper = empty_keeper(alloc);
+    assert!(rt; adds_first(&rt, alloc, &mut keeper));
+    assert!(rt; answers_second_with_first(&rt, alloc, &mut keeper));
+    assert!(rt; finds_first(&rt, alloc, &mut keeper));
+    let count = keeper.count(alloc, Table::Register, 0).ok();
+    assert!(rt; matches!(count, Some(1)));
+    drop(keeper);
+}
+
+fn adds_waiting(rt: &impl Abort, alloc: Global, keeper: &mut MemoryKeeper) -> bool {
+    let waiting = waiting(rt, alloc);
+    let done = keeper.add(alloc, &waiting);
+    drop(waiting);
+    is_done(done)
+}
+
+fn settle(
+    rt: &impl Abort,
+    alloc: Global,
+    keeper: &mut MemoryKeeper,
+    certificate: &[u8],
+) -> Result<(), KeepRefusal>
+    requires { length certificate.now ≤ 65535 }
+{
+    let settled = settled(rt, alloc, certificate);
+    let reference = reference(rt);
+    let done = keeper.settle(alloc, 2, &reference, &settled);
+    drop(settled);
+    done
+}
+
+fn has_first_certificate(row: Option<Row>) -> bool {
+    let has_first = match &row {
+        Some(row) => has_certificate(row, b"\x01"),
+        None => false,
+    };
+    drop(row);
+    has_first
 }
 
 #[test]
 fn an_own_row_is_settled_once(rt: HostRuntime) {
     let alloc = rt.alloc();
-    let mut keeper = MemoryKeeper::new(alloc, KeeperPlan::new(alloc));
-    let reference = reference(&rt);
-    let first = settled(&rt, alloc, b"\x01");
-    assert!(rt;
-        matches!(
-            keeper.settle(alloc, 2, &reference, &first),
-            Err(KeepRefusal::Absent)
-        )
-    );
-    assert!(rt; keeper.add(alloc, &waiting(&rt, alloc)).is_ok());
-    assert!(rt; keeper.settle(alloc, 2, &reference, &first).is_ok());
-    let second = settled(&rt, alloc, b"\x02");
-    let kept = kept_row(keeper.settle(alloc, 2, &reference, &second));
-    assert!(rt; has_certificate(&kept.expect(&rt, "the row is settled"), b"\x01"));
+    let mut keeper = empty_keeper(alloc);
+    assert!(rt; is_absent(settle(&rt, alloc, &mut keeper, b"\x01")));
+    assert!(rt; adds_waiting(&rt, alloc, &mut keeper));
+    assert!(rt; is_done(settle(&rt, alloc, &mut keeper, b"\x01")));
+    let kept = kept_row(settle(&rt, alloc, &mut keeper, b"\x02"));
+    assert!(rt; has_first_certificate(kept));
+    drop(keeper);
+}
+
+fn of_desk(alloc: Global, keeper: &mut MemoryKeeper) -> Option<usize> {
+    number(keeper.of_desk(alloc, Table::Own, 2))
+}
+
+fn of_holder(rt: &impl Abort, alloc: Global, keeper: &mut MemoryKeeper) -> Option<usize> {
+    let holder = reference(rt).holder();
+    number(keeper.of_holder(alloc, Table::Own, 2, &holder))
 }
 
 #[test]
 fn readings_give_the_rows_of_a_desk_and_of_a_holder(rt: HostRuntime) {
     let alloc = rt.alloc();
-    let mut keeper = MemoryKeeper::new(alloc, KeeperPlan::new(alloc));
-    let holder = reference(&rt).holder();
-    assert_eq!(rt; number(keeper.of_desk(alloc, Table::Own, 2)), Some(0));
-    assert_eq!(rt;
-        number(keeper.of_holder(alloc, Table::Own, 2, &holder)),
-        Some(0)
-    );
-    assert!(rt; keeper.add(alloc, &waiting(&rt, alloc)).is_ok());
-    assert_eq!(rt; number(keeper.of_desk(alloc, Table::Own, 2)), Some(1));
-    assert_eq!(rt;
-        number(keeper.of_holder(alloc, Table::Own, 2, &holder)),
-        Some(1)
-    );
+    let mut keeper = empty_keeper(alloc);
+    assert!(rt; matches!(of_desk(alloc, &mut keeper), Some(0)));
+    assert!(rt; matches!(of_holder(&rt, alloc, &mut keeper), Some(0)));
+    assert!(rt; adds_waiting(&rt, alloc, &mut keeper));
+    assert!(rt; matches!(of_desk(alloc, &mut keeper), Some(1)));
+    assert!(rt; matches!(of_holder(&rt, alloc, &mut keeper), Some(1)));
+    drop(keeper);
+}
+
+fn issued(rt: &impl Abort, alloc: Global) -> Row {
+    Row {
+        desk: 2,
+        reference: reference(rt),
+        part: Part::Issued(IssuedPart {
+            request: Octets::new(alloc),
+            key: key(rt, alloc),
+            settled: settled(rt, alloc, b"\x01"),
+        }),
+    }
+}
+
+fn authority(rt: &impl Abort, alloc: Global) -> Row {
+    Row {
+        desk: 2,
+        reference: reference(rt),
+        part: Part::Ca(CaPart {
+            key: key(rt, alloc),
+            settled: settled(rt, alloc, b"\x01"),
+        }),
+    }
 }
 
 #[test]
-fn rows_with_certificates_are_copied(rt: HostRuntime) {
+fn issued_rows_are_copied(rt: HostRuntime) {
     let alloc = rt.alloc();
-    let issued = Row {
-        desk: 2,
-        reference: reference(&rt),
-        part: Part::Issued(IssuedPart {
-            request: Octets::new(alloc),
-            key: key(&rt, alloc),
-            settled: settled(&rt, alloc, b"\x01"),
-        }),
-    };
-    assert!(rt; is_copied(alloc, &issued));
-    let authority = Row {
-        desk: 2,
-        reference: reference(&rt),
-        part: Part::Ca(CaPart {
-            key: key(&rt, alloc),
-            settled: settled(&rt, alloc, b"\x01"),
-        }),
-    };
-    assert!(rt; is_copied(alloc, &authority));
+    assert!(rt; is_copied(alloc, issued(&rt, alloc)));
+}
+
+#[test]
+fn rows_of_authorities_are_copied(rt: HostRuntime) {
+    let alloc = rt.alloc();
+    assert!(rt; is_copied(alloc, authority(&rt, alloc)));
+}
+
+// A keeper whose first call fails, before its change or after it.
+fn failing(rt: &impl Abort, alloc: Global, moment: Moment) -> FadingKeeper {
+    let mut plan = KeeperPlan::new(alloc);
+    assert!(rt; plan.push((1, moment)).is_ok());
+    FadingKeeper::new(MemoryKeeper::new(alloc, plan))
+}
+
+// How many rows are there after an adding that failed.
+fn rows_after_a_failure(rt: &impl Abort, alloc: Global, moment: Moment) -> Option<u64> {
+    let mut keeper = failing(rt, alloc, moment);
+    let first = row(rt, alloc, b"\x01", *b"240101");
+    let done = keeper.add(alloc, &first);
+    drop(first);
+    assert!(rt; is_failed(done));
+    let count = keeper.count(alloc, Table::Register, 0);
+    drop(keeper);
+    count.ok()
 }
 
 #[test]
 fn a_call_fails_before_or_after_its_change(rt: HostRuntime) {
     let alloc = rt.alloc();
-    for (moment, rows) in [(Moment::Before, 0), (Moment::After, 1)] {
-        let mut plan = KeeperPlan::new(alloc);
-        assert!(rt; plan.push((1, moment)).is_ok());
-        let mut keeper = FadingKeeper::new(MemoryKeeper::new(alloc, plan));
-        let first = row(&rt, alloc, b"\x01", *b"240101");
-        assert!(rt; matches!(keeper.add(alloc, &first), Err(KeepRefusal::Failed)));
-        match keeper.count(alloc, Table::Register, 0) {
-            Ok(count) => assert_eq!(rt; count, rows),
-            Err(_) => panic!(rt; "the second call doesn't fail"),
-        }
-    }
+    let before = rows_after_a_failure(&rt, alloc, Moment::Before);
+    assert!(rt; matches!(before, Some(0)));
+    let after = rows_after_a_failure(&rt, alloc, Moment::After);
+    assert!(rt; matches!(after, Some(1)));
 }

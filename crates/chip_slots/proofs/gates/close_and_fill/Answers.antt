@@ -22,4 +22,4 @@ returns-in_ok-close_gate-in-Open-clause-done g c = on_ok c.fill_slot-in-Open.res
     let free = c.in_ok-close_gate-in-Open.ensures.done tells old spare gate in
     let told = c.in_ok-close_gate-in-Open.ensures.tells tells in
     let slots = same_slots _ _ _ _ (g.met.D.ChipDisk.measured c.args.disk.now tells) (g.met.D.ChipDisk.measured c.close_gate.new.disk told) c.in_ok-close_gate-in-Open.ensures.size in
-    ok_gives c.fill_slot-in-Open.result _ c.fill_slot-in-Open.ensures.done is told old y free (says_there c.args.slot y c.args.record.now _ _ slots says))
+    ok_gives c.fill_slot-in-Open.result _ c.fill_slot-in-Open.ensures.done is told old y free (says_there c.args.slot y c.args.text.now _ _ slots says))

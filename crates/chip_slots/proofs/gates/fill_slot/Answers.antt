@@ -4,16 +4,16 @@ use Rattle.chip_slots.proofs.DeviceWork.{then_sync}
 use Rattle.chip_slots.proofs.gates.fill_slot.Goals as goal
 
 pub returns-in_err-write_at-clause-works : goal.returns-in_err-write_at-clause-works
-returns-in_err-write_at-clause-works g c = λ tells old free. fill_write c.args.slot old c.args.record.now _ _ _ _ _ c.requires.short free (c.write_at.ensures.stands tells)
+returns-in_err-write_at-clause-works g c = λ tells old free. fill_write c.args.slot old c.args.text.now _ _ _ _ _ c.requires.short free (c.write_at.ensures.stands tells)
 
 pub returns-clause-works : goal.returns-clause-works
 returns-clause-works g c = λ tells old free.
     let wrote = c.in_ok-write_at.ensures.stands tells in
     let synced = c.sync.ensures.stands (c.in_ok-write_at.ensures.tells tells) in
-    then_sync (ReadsAs old) _ _ _ _ _ _ _ (fill_write c.args.slot old c.args.record.now _ _ _ _ _ c.requires.short free wrote) synced
+    then_sync (ReadsAs old) _ _ _ _ _ _ _ (fill_write c.args.slot old c.args.text.now _ _ _ _ _ c.requires.short free wrote) synced
 
 pub returns-clause-done : goal.returns-clause-done
 returns-clause-done g c = on_ok c.sync.result _ (λ is tells old y free says.
     let wrote = c.in_ok-write_at.ensures.stands tells in
     let synced = c.sync.ensures.stands (c.in_ok-write_at.ensures.tells tells) in
-    filled_now c.args.slot old y c.args.record.now _ _ _ _ _ _ c.requires.short free says wrote (synced_when _ _ _ _ _ is synced))
+    filled_now c.args.slot old y c.args.text.now _ _ _ _ _ _ c.requires.short free says wrote (synced_when _ _ _ _ _ is synced))

@@ -18,7 +18,7 @@ returns-clause-works g c = λ tells old y spare says more.
     let spare_then = spare_read c.args.slot old _ _ _ _ spare read in
     let shown = gate_read c.args.slot _ _ _ _ _ (sym (c.in_ok-shown.ensures.gate tells)) read in
     let slots = same_slots _ _ _ _ (g.met.D.ChipDisk.measured c.args.disk.now tells) (g.met.D.ChipDisk.measured c.read_gate.new.disk told) c.in_ok-shown.ensures.size in
-    let ready = c.in_ok-close_and_fill.ensures.done told old y spare_then shown (says_there c.args.slot y c.args.record.now _ _ slots says) in
+    let ready = c.in_ok-close_and_fill.ensures.done told old y spare_then shown (says_there c.args.slot y c.args.text.now _ _ slots says) in
     let told_then = c.in_ok-close_and_fill.ensures.tells told in
     let filled = works_map (ReadsAs old) (ReadsEither old (Some y)) (λ i as_old. inl as_old) _ _ _ _ (c.in_ok-close_and_fill.ensures.works told old spare_then shown) in
     works_then (ReadsEither old (Some y)) _ _ _ _ _ _ (works_then (ReadsEither old (Some y)) _ _ _ _ _ _ begun filled) (c.open_gate.ensures.works told_then old y ready more)
@@ -30,5 +30,5 @@ returns-clause-done g c = on_ok c.open_gate.result _ (λ is tells old y spare sa
     let spare_then = spare_read c.args.slot old _ _ _ _ spare read in
     let shown = gate_read c.args.slot _ _ _ _ _ (sym (c.in_ok-shown.ensures.gate tells)) read in
     let slots = same_slots _ _ _ _ (g.met.D.ChipDisk.measured c.args.disk.now tells) (g.met.D.ChipDisk.measured c.read_gate.new.disk told) c.in_ok-shown.ensures.size in
-    let ready = c.in_ok-close_and_fill.ensures.done told old y spare_then shown (says_there c.args.slot y c.args.record.now _ _ slots says) in
+    let ready = c.in_ok-close_and_fill.ensures.done told old y spare_then shown (says_there c.args.slot y c.args.text.now _ _ slots says) in
     ok_gives c.open_gate.result _ c.open_gate.ensures.done is (c.in_ok-close_and_fill.ensures.tells told) old y ready more)
