@@ -1,5 +1,5 @@
 -- The ends of a run, by its status.
-use Rattle.std.proofs.Common.{◌≡◌, ℕ, ◌<◌, ◌≤◌, List, [], ◌++◌, length, Some, None, refl, sym, ap, ◌∙◌, subst, arith, inl, inr, ◌⊎◌, append-nil, length-append}
+use Rattle.std.proofs.Common.{◌≡◌, ℕ, ◌≤◌, List, [], ◌++◌, length, Some, None, refl, sym, ap, ◌∙◌, subst, arith, inl, inr, append-nil, length-append}
 use Rattle.std.specs.Prelude.{IfSome}
 use Rattle.std.specs.declared.option.Option.{Option}
 use Rattle.std.specs.Io.KnownBytes.{Consumes}
@@ -12,7 +12,7 @@ use Rattle.eac_cli.specs.declared.running.Stop.TheVariants.{WriteFault as StopWr
 use Rattle.eac_cli.specs.declared.tool.Status.{Status}
 use Rattle.eac_cli.specs.declared.tool.Status.TheVariants.{Done, Usage, ScriptFault, TooLong, ReadFault, WriteFault, NoMemory}
 use Rattle.eac_cli.specs.Script.{IsScript, IsFault}
-use Rattle.eac_cli.specs.Top.{Shows, IsShown, WasRead, Whole, Stopped, Claim, IsComplete, TellsFault, TellsLength, IsRunStatus, status_of, most_input}
+use Rattle.eac_cli.specs.Top.{Shows, IsShown, WasRead, Whole, Stopped, Claim, IsComplete, TellsFault, TellsLength, IsRunStatus, status_of}
 use Rattle.eac_cli.proofs.Orders.{no_fault, fault_is_one}
 
 module _ (rows rows' : Option (List Row)) (f f' : ℕ) (s t left : Option (List ℕ)) (bytes : List ℕ) (done : ℕ) where

@@ -1,6 +1,6 @@
 -- What a script says may be run: a day stands before every event that wants one, and its bytes are within the limit.
-use Rattle.std.proofs.Common.{◌≡◌, ℕ, ◌≤◌, Bool, true, false, cond, List, [], ◌∷◌, length, Some, None, Ok, Err, refl, sym, ap, ◌∙◌, subst, nat_le}
-use Rattle.std.specs.Prelude.{IsSome, map}
+use Rattle.std.proofs.Common.{◌≡◌, ℕ, ◌≤◌, Bool, true, false, cond, List, [], ◌∷◌, length, Some, None, Ok, Err, refl, sym, subst, nat_le}
+use Rattle.std.specs.Prelude.{map}
 use Rattle.std.specs.Result.{result_map_both}
 use Rattle.std.specs.Str.{bytes_eq}
 use Rattle.std.specs.Prelude.{codes}
@@ -21,7 +21,7 @@ use Rattle.policy_limits.specs.Lines.{one_word, two_words}
 use Rattle.policy_limits.specs.Roster.{Roster}
 use Rattle.policy_limits.specs.SetupLine.{is_setup_line}
 use Rattle.eac_cli.specs.LineGrammar.{day_of, day_said, ask_with, ask_of, ask_said, event_said, event_of}
-use Rattle.eac_cli.specs.Script.{Line, InSetup, Alone, line_of, lines_read, events_of, later_day, IsInPlace, InOrder, IsScript}
+use Rattle.eac_cli.specs.Script.{Line, InSetup, Alone, line_of, events_of, later_day, IsInPlace, InOrder, IsScript}
 use Rattle.eac_cli.specs.Steps.{MayRun, MayRunAll}
 use Rattle.eac_cli.proofs.Orders.{in_order}
 

@@ -10,7 +10,7 @@ use Rattle.policy_limits.specs.SetupText.{with_line}
 use Rattle.policy_limits.specs.declared.setup_text.SetupRefusal.{SetupRefusal}
 use Rattle.eac_cli.specs.LineGrammar.{rule_number}
 use Rattle.policy_limits.specs.Roster.{Roster}
-use Rattle.eac_cli.specs.Script.{Line, Said, InSetup, Alone, lines_read, setup_lines, setup_of, events_of, day_after, late_rule, order_rule, count_rule, rule_behind, rule_in_setup, setup_rule_behind, broken, Unbroken, IsScript, IsFault, IsInPlace, InOrder}
+use Rattle.eac_cli.specs.Script.{Line, Said, InSetup, Alone, lines_read, setup_lines, setup_of, events_of, day_after, order_rule, count_rule, rule_behind, rule_in_setup, broken, Unbroken, IsScript, IsFault, IsInPlace, InOrder}
 use Rattle.eac_cli.specs.ScriptLaws.{IsInTwoParts}
 use Rattle.eac_cli.specs.declared.event.Event.{Event}
 use Rattle.eac_cli.specs.declared.event.Event.TheVariants.{Day, Ask}

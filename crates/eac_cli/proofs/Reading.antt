@@ -1,16 +1,13 @@
 -- The reading of a script, one line after the other.
-use Rattle.std.proofs.Common.{◌≡◌, ℕ, ◌+◌, List, [], ◌∷◌, ◌++◌, map, length, None, Some, Ok, Err, refl, sym, ap, ◌∙◌, subst, append-nil, append_assoc}
+use Rattle.std.proofs.Common.{◌≡◌, ℕ, ◌+◌, List, [], ◌∷◌, ◌++◌, map, length, None, Ok, Err, refl, sym, ap, ◌∙◌, subst, append-nil, append_assoc}
 use Rattle.std.specs.declared.option.Option.{Option}
-use Rattle.std.specs.declared.result.Result.{Result}
 use Rattle.eac_base.specs.Answers.{◌>>=◌}
 use Rattle.policy_limits.specs.Lines.{numbered_from}
 use Rattle.policy_limits.specs.Roster.{Roster, roster_of}
 use Rattle.policy_limits.specs.SetupText.{with_lines}
 use Rattle.policy_limits.proofs.SetupReading.{both_parts}
 use Rattle.eac_cli.specs.Script.{Line, InSetup, Alone, line_of, lines_read, setup_lines, setup_of, events_of, later_day, day_after, broken_behind, broken, Unbroken, Takes}
-use Rattle.eac_cli.specs.declared.event.Event.{Event}
 use Rattle.eac_cli.specs.declared.event.EventLine.{EventLine}
-use Rattle.eac_cli.specs.declared.line_rule.LineRule.{LineRule}
 
 -- The lines up to line `last` are read and break no rule, and `rest` is left of the bytes.
 pub record Reading (bytes rest : List ℕ) (last : ℕ) (setup : Roster) (today : Option ℕ) (events : List EventLine) : Type 0 where

@@ -1,21 +1,18 @@
 -- A run of lines goes on by one line, and what a whole run tells.
-use Rattle.std.proofs.Common.{◌≡◌, ℕ, ◌+◌, ◌<◌, ◌≤◌, zero, suc, List, [], ◌∷◌, ◌++◌, length, map, take, drop, get_or, Some, None, Ok, Err, refl, sym, ap, ◌∙◌, subst, arith, append-nil, append_assoc, length-append, length-take-le, add-one}
-use Rattle.std.specs.Prelude.{IfSome, slice_get}
+use Rattle.std.proofs.Common.{◌≡◌, ℕ, ◌+◌, ◌<◌, zero, suc, List, [], ◌∷◌, ◌++◌, length, take, drop, get_or, Some, None, Err, refl, sym, ap, ◌∙◌, subst, arith, append-nil, append_assoc, length-append, length-take-le, add-one}
+use Rattle.std.specs.Prelude.{slice_get}
 use Rattle.std.specs.declared.option.Option.{Option}
-use Rattle.std.specs.declared.result.Result.{Result}
-use Rattle.std.proofs.lemmas.List.{map-append, take_more, take_all}
-use Rattle.std.specs.Io.KnownBytes.{Appends, Keeps}
+use Rattle.std.proofs.lemmas.List.{map-append}
+use Rattle.std.specs.Io.KnownBytes.{Appends}
 use Rattle.std.proofs.KnownBytes.{Appends-trans, Appends-nil, Appends-kept}
-use Rattle.eac_base.specs.Causes.{AppendsFront}
 use Rattle.eac_base.specs.Telling.{Told}
-use Rattle.eac_base.specs.Runs.{Runs}
 use Rattle.eac_base.proofs.RunLaws.{runs_more, runs_keep}
 use Rattle.eac_base.proofs.Tellings.{told_then, told_more, told_same}
 use Rattle.keeper.specs.declared.rows.Row.{Row}
 use Rattle.issue_core.specs.declared.rule.Rule.{Rule}
 use Rattle.issue_core.specs.Ledger.{Delivery, entries}
 use Rattle.issue_core.specs.Story.{Decides}
-use Rattle.issue_core.specs.Register.{Asked, Fault, Entries, Deliveries, register, unsigned, RegisterStory, delivery_of, entries_of, rows_left, rows_added, rows_of_ledger}
+use Rattle.issue_core.specs.Register.{Asked, Fault, Entries, register, unsigned, RegisterStory, delivery_of, entries_of, rows_left, rows_added}
 use Rattle.issue_core.proofs.StoryLaws.{story_more}
 use Rattle.issue_core.proofs.RowLaws.{entries_append, added_entries, added_rows, rows_added-append}
 use Rattle.eac_cli.specs.declared.event.Event.{Event}

@@ -1,9 +1,9 @@
 -- A text of setup lines alone, as a setup and as a script.
-use Rattle.std.proofs.Common.{◌≡◌, ℕ, ◌+◌, Bool, true, false, cond, List, [], ◌∷◌, ◌++◌, map, length, None, Some, Ok, Err, refl, sym, ap, ◌∙◌, subst}
+use Rattle.std.proofs.Common.{◌≡◌, ℕ, Bool, true, false, cond, List, [], ◌∷◌, ◌++◌, map, length, None, Some, Ok, Err, refl, sym, ap, ◌∙◌, subst}
 use Rattle.std.specs.declared.option.Option.{Option}
 use Rattle.std.specs.declared.result.Result.{Result}
 use Rattle.std.specs.Prelude.{codes, ◌||◌}
-use Rattle.std.specs.List.{list_all, slice_split}
+use Rattle.std.specs.List.{list_all}
 use Rattle.std.specs.Option.{option_or}
 use Rattle.std.specs.Str.{bytes_eq}
 use Rattle.eac_base.specs.Answers.{◌>>=◌, some_or, ◌gives◌}
@@ -16,7 +16,7 @@ use Rattle.policy_limits.specs.declared.party.PartyKind.TheVariants as kinds
 use Rattle.policy_limits.specs.declared.setup_line.SetupLine.{SetupLine}
 use Rattle.policy_limits.specs.declared.setup_text.SetupRefusal.{SetupRefusal}
 use Rattle.policy_limits.specs.declared.setup_text.SetupRefusal.TheVariants.{Form}
-use Rattle.eac_cli.specs.Script.{Line, InSetup, Alone, line_of, lines_read, setup_lines, setup_of, events_of, day_after, rule_in_setup, late_rule, setup_rule_behind, broken, Unbroken, IsScript}
+use Rattle.eac_cli.specs.Script.{Line, InSetup, Alone, line_of, setup_lines, setup_of, events_of, rule_in_setup, late_rule, setup_rule_behind, broken, Unbroken, IsScript}
 use Rattle.eac_cli.specs.ScriptLaws.{SetupsAreScripts}
 use Rattle.eac_cli.specs.LineGrammar.{event_of}
 use Rattle.eac_cli.specs.declared.event.Event.{Event}

@@ -1,12 +1,10 @@
 -- One event: its answer, its turn, and what is said of it.
-use Rattle.std.proofs.Common.{◌≡◌, ℕ, ◌≤◌, ◌<◌, List, [], ◌∷◌, ◌++◌, length, Some, None, Ok, Err, le_refl, refl, sym, ap, ◌∙◌, subst, append-nil}
+use Rattle.std.proofs.Common.{◌≡◌, ℕ, ◌≤◌, List, [], ◌∷◌, ◌++◌, Some, Ok, Err, refl, sym, ap, ◌∙◌, subst, append-nil}
 use Rattle.std.specs.Prelude.{OnOk, OnErr, IfOk}
 use Rattle.std.specs.declared.option.Option.{Option}
 use Rattle.std.specs.declared.result.Result.{Result}
-use Rattle.std.specs.Io.KnownBytes.{Appends, Keeps}
-use Rattle.std.proofs.KnownBytes.{Keeps-refl}
 use Rattle.cv_dates.specs.Calendar.{day_text}
-use Rattle.eac_base.specs.Causes.{Rose, AppendsFront}
+use Rattle.eac_base.specs.Causes.{Rose}
 use Rattle.eac_base.specs.Telling.{Told}
 use Rattle.eac_base.proofs.Tellings.{told_more, told_same}
 use Rattle.keeper.specs.declared.rows.Row.{Row}
@@ -22,12 +20,10 @@ use Rattle.issue_core.proofs.RowLaws.{unheard, decides_unheard}
 use Rattle.eac_cli.specs.declared.event.Event.{Event}
 use Rattle.eac_cli.specs.declared.event.Event.TheVariants.{Day, Ask}
 use Rattle.eac_cli.specs.declared.event.EventLine.{EventLine}
-use Rattle.eac_cli.specs.declared.running.Stop.{Stop}
-use Rattle.eac_cli.specs.declared.running.Stop.TheVariants.{WriteFault, NoMemory as StopNoMemory}
 use Rattle.eac_cli.specs.State.{State}
 use Rattle.eac_cli.specs.Turn.{asked_on, Answer, Silent, Registered, Memory, told_as, AskTurn, Turn, IsCaused, AnswersTo, IsEnded}
 use Rattle.eac_cli.specs.Journal.{outcome_text, answer_text, numbered_line, line_text}
-use Rattle.eac_cli.specs.Steps.{IsAt, Steps, Said, Lined, Sent}
+use Rattle.eac_cli.specs.Steps.{IsAt, Steps, Said, Lined}
 
 -- ---- a day
 

@@ -4,7 +4,6 @@ use Rattle.cv_dates.specs.Calendar.{day_text}
 use Rattle.chat_rights.specs.Rights.{rights_text}
 use Rattle.chat_rights.specs.declared.Role.{Role}
 use Rattle.chat_rights.specs.declared.Role.TheVariants.{Cvca, Domestic, Foreign, Terminal}
-use Rattle.chat_rights.specs.declared.Template.{Template}
 use Rattle.cvc_grammar.specs.declared.certificate.Cert.{Cert}
 use Rattle.cvc_grammar.specs.declared.certificate.CertBody.{CertBody}
 use Rattle.cvc_grammar.specs.declared.refusal.CvcRefusal.{CvcRefusal}

@@ -1,5 +1,5 @@
 -- One event as the program runs it: from the objects before it to those after it (this project's own).
-use Rattle.std.specs.Prelude.{◌≡◌, ℕ, ◌≤◌, List, [], ◌∷◌, ◌++◌, length, Option, Some, None, IsSome, Result, Ok, Err}
+use Rattle.std.specs.Prelude.{◌≡◌, ℕ, ◌≤◌, List, [], ◌∷◌, ◌++◌, length, Option, IsSome, Result, Ok, Err}
 use Rattle.std.specs.Io.KnownBytes.{Appends, Keeps}
 use Rattle.eac_base.specs.Causes.{AppendsFront}
 use Rattle.eac_base.specs.Telling.{Told}
@@ -11,7 +11,7 @@ use Rattle.eac_cli.specs.declared.running.Stop.{Stop}
 use Rattle.eac_cli.specs.declared.running.Stop.TheVariants.{WriteFault, NoMemory}
 use Rattle.eac_cli.specs.Script.{later_day}
 use Rattle.eac_cli.specs.State.{State}
-use Rattle.eac_cli.specs.Turn.{Answer, Silent, Registered, Memory, Turn, AnswersTo, IsEnded}
+use Rattle.eac_cli.specs.Turn.{Answer, Memory, Turn, AnswersTo, IsEnded}
 use Rattle.eac_cli.specs.Journal.{answer_text, line_text}
 
 -- The event may be run on this day: a day stands unless it is a `day`, and its bytes are within the limit of its line.

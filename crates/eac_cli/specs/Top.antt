@@ -1,5 +1,5 @@
 -- What the top call did, by its status (this project's own).
-use Rattle.std.specs.Prelude.{◌≡◌, ◌⊎◌, ℕ, ◌+◌, ◌<◌, ◌≤◌, List, [], ◌∷◌, ◌++◌, length, map, take, codes, Option, Some, None, slice_get, if◌then◌else◌}
+use Rattle.std.specs.Prelude.{◌≡◌, ◌⊎◌, ℕ, ◌<◌, ◌≤◌, List, [], ◌∷◌, ◌++◌, length, map, take, codes, Option, Some, None, slice_get, if◌then◌else◌}
 use Rattle.std.specs.Io.KnownBytes.{IsAtEnd, Appends}
 use Rattle.std.specs.Str.{bytes_eq}
 use Rattle.eac_base.specs.Causes.{Rose, AppendsFront}
@@ -21,7 +21,7 @@ use Rattle.eac_cli.specs.declared.tool.Status.TheVariants.{Done, Usage, ScriptFa
 use Rattle.eac_cli.specs.Script.{later_day, IsScript, IsFault}
 use Rattle.eac_cli.specs.Show.{show_text}
 use Rattle.eac_cli.specs.State.{State, first_state}
-use Rattle.eac_cli.specs.Turn.{asked_on, Answer, Silent, Registered, Memory, History, AreAnswers, AreEnded, IsEnded}
+use Rattle.eac_cli.specs.Turn.{asked_on, Answer, Memory, History, AreAnswers, AreEnded}
 use Rattle.eac_cli.specs.Journal.{journal, line_text, events}
 
 -- ---- commands

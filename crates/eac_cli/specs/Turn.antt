@@ -1,5 +1,5 @@
 -- What one event does (this project's own): from a state, with an answer, to a state.
-use Rattle.std.specs.Prelude.{◌≡◌, ℕ, ◌≤◌, List, [], ◌∷◌, ◌++◌, Option, Some, None}
+use Rattle.std.specs.Prelude.{◌≡◌, ℕ, ◌≤◌, List, [], ◌∷◌, ◌++◌, Option, Some}
 use Rattle.cv_dates.specs.Calendar.{day_text}
 use Rattle.eac_base.specs.Causes.{Rose}
 use Rattle.eac_base.specs.Runs.{Runs}

@@ -1,7 +1,7 @@
 use Rattle.std.proofs.Common.{◌∙◌, ◌+◌, ◌++◌, ◌∷◌, [], take, drop, arith, subst, sym, ap}
 use Rattle.std.proofs.lemmas.List.{take_more, take_all}
 use Rattle.eac_cli.specs.Steps.{MayRunAll}
-use Rattle.eac_cli.proofs.Runs.{nothing_yet, one_more, may_run_next, whole_run, stopped_run}
+use Rattle.eac_cli.proofs.Runs.{one_more, may_run_next, whole_run, stopped_run}
 use Rattle.eac_cli.proofs.running.run_lines.Goals as goal
 
 pub run_line-requires : goal.run_line-requires

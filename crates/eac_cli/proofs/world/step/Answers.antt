@@ -1,5 +1,3 @@
-use Rattle.std.proofs.Common.{refl, sym, subst, append-nil}
-use Rattle.eac_cli.specs.Turn.{Silent}
 use Rattle.eac_cli.proofs.Turning.{day_stepped}
 use Rattle.eac_cli.proofs.world.step.Goals as goal
 
