@@ -252,7 +252,12 @@ fn another_request_that_came_between_is_used(rt: HostRuntime) {
     let alloc = rt.alloc();
     let mut rows = MemoryKeeper::new(alloc, KeeperPlan::new(alloc));
     keep(&rt, alloc, &mut rows, &own(&rt, alloc, 5));
-    keep(&rt, alloc, &mut rows, &earlier(&rt, alloc, b"DEDVBUND00001"));
+    keep(
+        &rt,
+        alloc,
+        &mut rows,
+        &earlier(&rt, alloc, b"DEDVBUND00001"),
+    );
     let mut keeper = LateKeeper::new(rows);
     let mut provider = provider(&rt, alloc, FailPlan::new(alloc), true);
     let setup = setup(&rt, alloc, BARE);
