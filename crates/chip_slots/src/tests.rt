@@ -1,4 +1,6 @@
 // A chip's memory under every crash, with certificates of another program.
+//
+// Owned values are let go by a call of `drop`: at the end of a scope each part of them would be proved apart.
 mod certs;
 
 use self::certs::{DOMESTIC, FIRST_TO_SECOND, ROOT, SECOND_TO_THIRD};
@@ -53,7 +55,11 @@ fn opened(rt: &impl Abort, disk: &mut MemoryDisk) -> Result<Chip, ChipRefusal> {
 
 fn generation_of(chip: Result<Chip, ChipRefusal>) -> Result<u64, ChipRefusal> {
     match chip {
-        Ok(chip) => Ok(chip.generation()),
+        Ok(chip) => {
+            let generation = chip.generation();
+            drop(chip);
+            Ok(generation)
+        }
         Err(refusal) => Err(refusal),
     }
 }
@@ -69,14 +75,18 @@ fn given(
     if disk.reserve().is_err() || !is_memory(disk.len()) {
         panic!(rt; "a memory");
     }
-    chip.import(disk, &mut provider, bytes)
+    let imported = chip.import(disk, &mut provider, bytes);
+    drop(provider);
+    imported
 }
 
 /// The generation that an image reads as, and one more; 0 for none.
 fn read_of(rt: &impl Abort, alloc: Global, image: Octets) -> u64 {
     let mut disk = MemoryDisk::new(alloc, image, FailPlan::new(alloc), None);
-    match opened(rt, &mut disk) {
-        Ok(chip) => chip.generation().saturating_add(1),
+    let generation = generation_of(opened(rt, &mut disk));
+    drop(disk);
+    match generation {
+        Ok(generation) => generation.saturating_add(1),
         Err(ChipRefusal::NoChip) => 0,
         Err(_) => panic!(rt; "no call fails here"),
     }
@@ -139,32 +149,72 @@ fn is_between(
     true
 }
 
+/// Imports a link, and gives how many device calls there were by then.
+fn linked(
+    rt: &impl Abort,
+    alloc: Global,
+    chip: &mut Chip,
+    disk: &mut MemoryDisk,
+    bytes: &[u8],
+) -> u64 {
+    let link = given(rt, alloc, chip, disk, bytes);
+    assert!(rt; link == Ok(Imported::Link));
+    disk.calls()
+}
+
+/// Whether every crash of the disk's past leaves one of these states.
+fn are_between(
+    rt: &impl Abort,
+    alloc: Global,
+    disk: &MemoryDisk,
+    begun: &[u64],
+    answered: &[u64],
+) -> bool {
+    for moment in 0..disk.calls().saturating_add(1) {
+        if !is_between(rt, alloc, disk, moment, begun, answered) {
+            return false;
+        }
+    }
+    true
+}
+
+/// Whether every crash about two links leaves the state before or after a call.
+fn two_links_fit(rt: &impl Abort, alloc: Global, slots: u64) -> bool {
+    let (mut chip, mut disk) = chip_on(rt, alloc, slots, FailPlan::new(alloc), None);
+    let made = slots.saturating_add(6);
+    let first = disk.calls();
+    let second = linked(rt, alloc, &mut chip, &mut disk, FIRST_TO_SECOND);
+    let last = linked(rt, alloc, &mut chip, &mut disk, SECOND_TO_THIRD);
+    assert!(rt; second == first.saturating_add(5));
+    drop(chip);
+    let fits = are_between(rt, alloc, &disk, &[1, first, second], &[made, second, last]);
+    drop(disk);
+    fits
+}
+
 #[test]
 fn every_crash_leaves_the_state_before_or_after_a_call(rt: HostRuntime) {
     let alloc = rt.alloc();
     for slots in RINGS {
-        let (mut chip, mut disk) = chip_on(&rt, alloc, slots, FailPlan::new(alloc), None);
-        let made = slots.saturating_add(6);
-        let first = disk.calls();
-        let link = given(&rt, alloc, &mut chip, &mut disk, FIRST_TO_SECOND);
-        assert_eq!(rt; link, Ok(Imported::Link));
-        let second = disk.calls();
-        let link = given(&rt, alloc, &mut chip, &mut disk, SECOND_TO_THIRD);
-        assert_eq!(rt; link, Ok(Imported::Link));
-        let last = disk.calls();
-        assert_eq!(rt; second, first.saturating_add(5));
-        for moment in 0..last.saturating_add(1) {
-            let fits = is_between(
-                &rt,
-                alloc,
-                &disk,
-                moment,
-                &[1, first, second],
-                &[made, second, last],
-            );
-            assert!(rt; fits);
-        }
+        assert!(rt; two_links_fit(&rt, alloc, slots));
     }
+}
+
+/// A link fails at the disk, and the next one asks for an opening.
+fn fail_a_link(rt: &impl Abort, alloc: Global, chip: &mut Chip, disk: &mut MemoryDisk) {
+    let link = given(rt, alloc, chip, disk, FIRST_TO_SECOND);
+    assert!(rt; link == Err(ChipRefusal::DiskFault));
+    let again = given(rt, alloc, chip, disk, FIRST_TO_SECOND);
+    assert!(rt; again == Err(ChipRefusal::NeedsOpen));
+}
+
+fn stopped_link_fits(rt: &impl Abort, alloc: Global, slots: u64, stop: u64) -> bool {
+    let (mut chip, mut disk) = chip_on(rt, alloc, slots, FailPlan::new(alloc), Some(stop));
+    fail_a_link(rt, alloc, &mut chip, &mut disk);
+    drop(chip);
+    let fits = is_between(rt, alloc, &disk, disk.calls(), &[0, 0], &[0]);
+    drop(disk);
+    fits
 }
 
 #[test]
@@ -173,40 +223,54 @@ fn a_link_that_is_stopped_anywhere_is_there_or_not(rt: HostRuntime) {
     for slots in RINGS {
         let begun = slots.saturating_mul(2).saturating_add(7);
         for stop in begun..begun.saturating_add(5) {
-            let (mut chip, mut disk) = chip_on(&rt, alloc, slots, FailPlan::new(alloc), Some(stop));
-            let link = given(&rt, alloc, &mut chip, &mut disk, FIRST_TO_SECOND);
-            assert_eq!(rt; link, Err(ChipRefusal::DiskFault));
-            let again = given(&rt, alloc, &mut chip, &mut disk, FIRST_TO_SECOND);
-            assert_eq!(rt; again, Err(ChipRefusal::NeedsOpen));
-            let fits = is_between(&rt, alloc, &disk, disk.calls(), &[0, 0], &[0]);
-            assert!(rt; fits);
+            assert!(rt; stopped_link_fits(&rt, alloc, slots, stop));
         }
     }
+}
+
+/// The memory after a link whose gate failed twice.
+fn failed_at_gate(rt: &impl Abort, alloc: Global, slots: u64) -> MemoryDisk {
+    let gate = slots.saturating_mul(2).saturating_add(11);
+    let plan = failing(rt, alloc, &[gate, gate.saturating_add(1)]);
+    let (mut chip, mut disk) = chip_on(rt, alloc, slots, plan, None);
+    fail_a_link(rt, alloc, &mut chip, &mut disk);
+    drop(chip);
+    disk
+}
+
+/// The generation that the second opening finds.
+fn settled(rt: &impl Abort, disk: &mut MemoryDisk) -> u64 {
+    let first = generation_of(opened(rt, disk));
+    assert!(rt; first == Err(ChipRefusal::DiskFault));
+    match generation_of(opened(rt, disk)) {
+        Ok(generation) => generation,
+        Err(_) => panic!(rt; "a chip"),
+    }
+}
+
+/// Whether each crash by now reads so.
+fn always_reads(rt: &impl Abort, alloc: Global, disk: &MemoryDisk, read: u64) -> bool {
+    for torn in TORN {
+        if crashed(rt, alloc, disk, disk.calls(), torn) != read {
+            return false;
+        }
+    }
+    true
+}
+
+fn failed_gate_is_settled(rt: &impl Abort, alloc: Global, slots: u64) -> bool {
+    let mut disk = failed_at_gate(rt, alloc, slots);
+    let generation = settled(rt, &mut disk);
+    let reads = always_reads(rt, alloc, &disk, generation.saturating_add(1));
+    drop(disk);
+    generation <= 1 && reads
 }
 
 #[test]
 fn a_failed_gate_is_settled_by_an_opening(rt: HostRuntime) {
     let alloc = rt.alloc();
     for slots in RINGS {
-        let gate = slots.saturating_mul(2).saturating_add(11);
-        let plan = failing(&rt, alloc, &[gate, gate.saturating_add(1)]);
-        let (mut chip, mut disk) = chip_on(&rt, alloc, slots, plan, None);
-        let link = given(&rt, alloc, &mut chip, &mut disk, FIRST_TO_SECOND);
-        assert_eq!(rt; link, Err(ChipRefusal::DiskFault));
-        let again = given(&rt, alloc, &mut chip, &mut disk, FIRST_TO_SECOND);
-        assert_eq!(rt; again, Err(ChipRefusal::NeedsOpen));
-        assert_eq!(rt;
-            generation_of(opened(&rt, &mut disk)),
-            Err(ChipRefusal::DiskFault)
-        );
-        let Ok(generation) = generation_of(opened(&rt, &mut disk)) else {
-            panic!(rt; "a chip");
-        };
-        assert!(rt; generation <= 1);
-        for torn in TORN {
-            let read = crashed(&rt, alloc, &disk, disk.calls(), torn);
-            assert_eq!(rt; read, generation.saturating_add(1));
-        }
+        assert!(rt; failed_gate_is_settled(&rt, alloc, slots));
     }
 }
 
@@ -226,31 +290,59 @@ fn worn(rt: &impl Abort, alloc: Global, slots: u64, image: &[u8]) -> Octets {
     worn
 }
 
+fn worn_disk(rt: &impl Abort, alloc: Global, slots: u64) -> MemoryDisk {
+    let (chip, disk) = chip_on(rt, alloc, slots, FailPlan::new(alloc), None);
+    drop(chip);
+    let image = disk.crashed(alloc, disk.calls(), 0).expect(rt, "memory");
+    drop(disk);
+    let bytes = worn(rt, alloc, slots, image.as_slice());
+    drop(image);
+    MemoryDisk::new(alloc, bytes, FailPlan::new(alloc), None)
+}
+
+/// What a worn chip answers to a certificate that changes its state, to its own root and to other bytes.
+fn answer_worn(rt: &impl Abort, alloc: Global, chip: &mut Chip, disk: &mut MemoryDisk) {
+    let domestic = given(rt, alloc, chip, disk, DOMESTIC);
+    assert!(rt; domestic == Err(ChipRefusal::Worn));
+    let root = given(rt, alloc, chip, disk, ROOT);
+    assert!(rt; root == Ok(Imported::Held));
+    let other = given(rt, alloc, chip, disk, b"no certificate");
+    assert!(rt; other.is_err());
+}
+
+fn worn_chip_answers(rt: &impl Abort, alloc: Global, slots: u64) {
+    let mut disk = worn_disk(rt, alloc, slots);
+    let Ok(mut chip) = opened(rt, &mut disk) else {
+        panic!(rt; "a chip");
+    };
+    assert!(rt; chip.generation() == u64::MAX);
+    answer_worn(rt, alloc, &mut chip, &mut disk);
+    drop(chip);
+    drop(disk);
+}
+
 #[test]
 fn a_worn_chip_keeps_its_state(rt: HostRuntime) {
     let alloc = rt.alloc();
     for slots in RINGS {
-        let (_, disk) = chip_on(&rt, alloc, slots, FailPlan::new(alloc), None);
-        let image = disk.crashed(alloc, disk.calls(), 0).expect(&rt, "memory");
-        let bytes = worn(&rt, alloc, slots, image.as_slice());
-        let mut disk = MemoryDisk::new(alloc, bytes, FailPlan::new(alloc), None);
-        let Ok(mut chip) = opened(&rt, &mut disk) else {
-            panic!(rt; "a chip");
-        };
-        assert_eq!(rt; chip.generation(), u64::MAX);
-        assert_eq!(rt;
-            given(&rt, alloc, &mut chip, &mut disk, DOMESTIC),
-            Err(ChipRefusal::Worn)
-        );
-        assert_eq!(rt;
-            given(&rt, alloc, &mut chip, &mut disk, ROOT),
-            Ok(Imported::Held)
-        );
-        assert_eq!(rt;
-            given(&rt, alloc, &mut chip, &mut disk, b"no certificate").is_err(),
-            true
-        );
+        worn_chip_answers(&rt, alloc, slots);
     }
+}
+
+/// Whether a memory of so many bytes answers so to a making, and as it should to what comes after.
+fn answers(rt: &impl Abort, alloc: Global, bytes: u64, answer: Result<(), MakeRefusal>) -> bool {
+    let memory = zeros(rt, alloc, bytes);
+    let mut disk = MemoryDisk::new(alloc, memory, FailPlan::new(alloc), None);
+    let again = if answer.is_ok() {
+        Err(MakeRefusal::Made)
+    } else {
+        answer
+    };
+    let first = made(rt, &mut disk);
+    let second = made(rt, &mut disk);
+    let generation = generation_of(opened(rt, &mut disk));
+    drop(disk);
+    first == answer && second == again && generation.is_ok() == answer.is_ok()
 }
 
 #[test]
@@ -265,17 +357,18 @@ fn a_memory_has_two_to_sixteen_slots(rt: HostRuntime) {
         (139_264, Err(MakeRefusal::Size)),
     ];
     for (bytes, answer) in table {
-        let memory = zeros(&rt, alloc, bytes);
-        let mut disk = MemoryDisk::new(alloc, memory, FailPlan::new(alloc), None);
-        assert_eq!(rt; made(&rt, &mut disk), answer);
-        let again = if answer.is_ok() {
-            Err(MakeRefusal::Made)
-        } else {
-            answer
-        };
-        assert_eq!(rt; made(&rt, &mut disk), again);
-        assert_eq!(rt; opened(&rt, &mut disk).is_ok(), answer.is_ok());
+        assert!(rt; answers(&rt, alloc, bytes, answer));
     }
+}
+
+/// Makes a chip, which is refused a second time.
+fn make_once(rt: &impl Abort, disk: &mut FileDisk) {
+    let Ok(root) = view_cert(ROOT) else {
+        panic!(rt; "a certificate");
+    };
+    let day = day_from_text(b"240101").expect(rt, "a day");
+    assert!(rt; make_chip(disk, &root, day) == Ok(()));
+    assert!(rt; make_chip(disk, &root, day) == Err(MakeRefusal::Made));
 }
 
 #[test]
@@ -286,14 +379,10 @@ fn a_chip_in_a_file_is_made_once_and_opened_again(rt: HostRuntime) {
     let Ok(mut disk) = FileDisk::make(&rt, path, 16_384) else {
         panic!(rt; "a file");
     };
-    let Ok(root) = view_cert(ROOT) else {
-        panic!(rt; "a certificate");
-    };
-    let day = day_from_text(b"240101").expect(&rt, "a day");
-    assert!(rt; matches!(open_chip(&mut disk), Err(ChipRefusal::NoChip)));
-    assert!(rt; make_chip(&mut disk, &root, day).is_ok());
-    assert!(rt; matches!(make_chip(&mut disk, &root, day), Err(MakeRefusal::Made)));
-    assert!(rt; matches!(generation_of(open_chip(&mut disk)), Ok(0)));
+    assert!(rt; generation_of(open_chip(&mut disk)) == Err(ChipRefusal::NoChip));
+    make_once(&rt, &mut disk);
+    assert!(rt; generation_of(open_chip(&mut disk)) == Ok(0));
     assert!(rt; FileDisk::make(&rt, path, 16_384).is_err());
     assert!(rt; fs::remove_file(&rt, path).is_ok());
+    drop(disk);
 }
