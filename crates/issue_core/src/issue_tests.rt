@@ -1,4 +1,6 @@
 // What no clause says: that the calls find memory, the bytes of worked examples, and a request for each rule.
+//
+// Owned values are let go by a call of `drop`: at the end of a scope each list of bytes in them would be proved apart.
 ghost use Rattle.std.specs.Prelude.{◌≡◌};
 ghost use Rattle.keeper.specs.Rows.{IsStorable, IsStorableKey, IsStorableSettled};
 
@@ -8,7 +10,7 @@ use crate::signing_row::Signing;
 use crate::{Answer, IssueFault, Rule, issue};
 use chat_rights::{Kind, Rights, Role, Template};
 use cv_dates::{Day, day_from_text};
-use cvc_grammar::read_request;
+use cvc_grammar::{Request, read_request};
 use eac_base::{FailPlan, Octets};
 use holder_reference::{Reference, read_reference};
 use keeper::{
@@ -155,26 +157,42 @@ fn earlier(rt: &impl Abort, alloc: Global, name: &[u8]) -> Row
     }
 }
 
-fn keep(rt: &impl Abort, alloc: Global, keeper: &mut MemoryKeeper, row: &Row)
-    requires { IsStorable row.now }
+fn keep(rt: &impl Abort, alloc: Global, keeper: &mut MemoryKeeper, row: Row)
+    requires { IsStorable row }
 {
-    keeper.add(alloc, row).expect(rt, "the row is new");
+    keeper.add(alloc, &row).expect(rt, "the row is new");
+    drop(row);
+}
+
+// The rows of a desk with its own key on the domain of the request.
+fn own_rows(rt: &impl Abort, alloc: Global) -> MemoryKeeper {
+    let mut keeper = MemoryKeeper::new(alloc, KeeperPlan::new(alloc));
+    keep(rt, alloc, &mut keeper, own(rt, alloc, 5));
+    keeper
+}
+
+fn new_key(rt: &impl Abort, alloc: Global, provider: &mut TableProvider) -> Key {
+    let form = plain_form(alloc, FormName::Ec).expect(rt, "memory is there");
+    let key = provider.new_key(alloc, &form).expect(rt, "no call fails");
+    drop(form);
+    key
+}
+
+fn sign(rt: &impl Abort, alloc: Global, provider: &mut TableProvider, key: Key, message: &[u8]) {
+    let signature = provider.sign(alloc, &key, message);
+    drop(key);
+    drop(signature.expect(rt, "no call fails"));
 }
 
 // Keys 1 and 2 are made; signature 1 is some other one, signature 2 that of the request where it is to be good.
 fn provider(rt: &impl Abort, alloc: Global, plan: FailPlan, good: bool) -> TableProvider {
     let mut provider = TableProvider::new(alloc, plan);
-    let form = plain_form(alloc, FormName::Ec).expect(rt, "memory is there");
-    let authority = provider.new_key(alloc, &form).expect(rt, "no call fails");
-    let verifier = provider.new_key(alloc, &form).expect(rt, "no call fails");
-    provider
-        .sign(alloc, &authority, b"")
-        .expect(rt, "no call fails");
+    let authority = new_key(rt, alloc, &mut provider);
+    let verifier = new_key(rt, alloc, &mut provider);
+    sign(rt, alloc, &mut provider, authority, b"");
     let whole = REQUEST.as_slice();
     let message = if good { &whole[4..83] } else { &whole[..0] };
-    provider
-        .sign(alloc, &verifier, message)
-        .expect(rt, "no call fails");
+    sign(rt, alloc, &mut provider, verifier, message);
     provider
 }
 
@@ -182,106 +200,106 @@ fn setup(rt: &impl Abort, alloc: Global, text: &[u8]) -> Setup {
     read_setup(alloc, text).expect(rt, "the setup is legal")
 }
 
-fn is_issued(answer: &Result<Answer, IssueFault>) -> bool {
-    matches!(answer, Ok(Answer::Issued(it)) if it.as_slice() == CERTIFICATE.as_slice())
+// Asks the desk of the bare setup for the request's certificate on this day.
+fn ask<B: Keeper>(
+    rt: &impl Abort,
+    alloc: Global,
+    today: &[u8; 6],
+    keeper: &mut B,
+    provider: &mut TableProvider,
+) -> Result<Answer, IssueFault> {
+    let setup = setup(rt, alloc, BARE);
+    let answer = issue(alloc, &setup, 0, day(rt, today), REQUEST, keeper, provider);
+    drop(setup);
+    answer
 }
 
-fn is_kept(answer: &Result<Answer, IssueFault>) -> bool {
-    matches!(answer, Ok(Answer::Kept(it)) if it.as_slice() == CERTIFICATE.as_slice())
+fn is_issued(answer: Result<Answer, IssueFault>) -> bool {
+    let is_issued =
+        matches!(&answer, Ok(Answer::Issued(it)) if it.as_slice() == CERTIFICATE.as_slice());
+    drop(answer);
+    is_issued
+}
+
+fn is_kept(answer: Result<Answer, IssueFault>) -> bool {
+    let is_kept =
+        matches!(&answer, Ok(Answer::Kept(it)) if it.as_slice() == CERTIFICATE.as_slice());
+    drop(answer);
+    is_kept
 }
 
 /// The number of the rule that was answered.
-fn broken(answer: &Result<Answer, IssueFault>) -> Option<u8> {
-    match answer {
+fn broken(answer: Result<Answer, IssueFault>) -> Option<u8> {
+    let broken = match &answer {
         Ok(Answer::Refused(rule)) => Some(rule.number()),
         _ => None,
-    }
+    };
+    drop(answer);
+    broken
 }
 
-fn has_failed(answer: &Result<Answer, IssueFault>) -> bool {
-    matches!(answer, Err(IssueFault::ProviderFault))
+fn has_failed(answer: Result<Answer, IssueFault>) -> bool {
+    let has_failed = matches!(&answer, Err(IssueFault::ProviderFault));
+    drop(answer);
+    has_failed
 }
 
 #[test]
 fn a_request_is_issued_and_its_repeat_is_kept(rt: HostRuntime) {
     let alloc = rt.alloc();
-    let mut keeper = MemoryKeeper::new(alloc, KeeperPlan::new(alloc));
-    keep(&rt, alloc, &mut keeper, &own(&rt, alloc, 5));
+    let mut keeper = own_rows(&rt, alloc);
     let mut provider = provider(&rt, alloc, FailPlan::new(alloc), true);
-    let setup = setup(&rt, alloc, BARE);
-    let first = issue(
-        alloc,
-        &setup,
-        0,
-        day(&rt, b"240101"),
-        REQUEST,
-        &mut keeper,
-        &mut provider,
-    );
-    assert!(rt; is_issued(&first));
-    let again = issue(
-        alloc,
-        &setup,
-        0,
-        day(&rt, b"240102"),
-        REQUEST,
-        &mut keeper,
-        &mut provider,
-    );
-    assert!(rt; is_kept(&again));
+    let first = ask(&rt, alloc, b"240101", &mut keeper, &mut provider);
+    assert!(rt; is_issued(first));
+    let again = ask(&rt, alloc, b"240102", &mut keeper, &mut provider);
+    assert!(rt; is_kept(again));
+    drop(keeper);
+    drop(provider);
 }
 
 // Another row under the number came between the look and the adding: it decides.
 #[test]
 fn a_row_that_came_between_is_answered(rt: HostRuntime) {
     let alloc = rt.alloc();
-    let mut rows = MemoryKeeper::new(alloc, KeeperPlan::new(alloc));
-    keep(&rt, alloc, &mut rows, &own(&rt, alloc, 5));
-    let mut keeper = LateKeeper::new(rows);
+    let mut keeper = LateKeeper::new(own_rows(&rt, alloc));
     let mut provider = provider(&rt, alloc, FailPlan::new(alloc), true);
-    let setup = setup(&rt, alloc, BARE);
-    let today = day(&rt, b"240101");
-    let first = issue(alloc, &setup, 0, today, REQUEST, &mut keeper, &mut provider);
-    assert!(rt; is_issued(&first));
-    let again = issue(alloc, &setup, 0, today, REQUEST, &mut keeper, &mut provider);
-    assert!(rt; is_kept(&again));
+    let first = ask(&rt, alloc, b"240101", &mut keeper, &mut provider);
+    assert!(rt; is_issued(first));
+    let again = ask(&rt, alloc, b"240101", &mut keeper, &mut provider);
+    assert!(rt; is_kept(again));
+    drop(keeper);
+    drop(provider);
 }
 
 #[test]
 fn another_request_that_came_between_is_used(rt: HostRuntime) {
     let alloc = rt.alloc();
-    let mut rows = MemoryKeeper::new(alloc, KeeperPlan::new(alloc));
-    keep(&rt, alloc, &mut rows, &own(&rt, alloc, 5));
-    keep(
-        &rt,
-        alloc,
-        &mut rows,
-        &earlier(&rt, alloc, b"DEDVBUND00001"),
-    );
+    let mut rows = own_rows(&rt, alloc);
+    keep(&rt, alloc, &mut rows, earlier(&rt, alloc, b"DEDVBUND00001"));
     let mut keeper = LateKeeper::new(rows);
     let mut provider = provider(&rt, alloc, FailPlan::new(alloc), true);
-    let setup = setup(&rt, alloc, BARE);
-    let today = day(&rt, b"240101");
-    let answer = issue(alloc, &setup, 0, today, REQUEST, &mut keeper, &mut provider);
-    assert!(rt; broken(&answer) == Some(2));
+    let answer = ask(&rt, alloc, b"240101", &mut keeper, &mut provider);
+    assert!(rt; broken(answer) == Some(2));
+    drop(keeper);
+    drop(provider);
 }
 
 // The first verdict is the fifth call of the provider.
 #[test]
 fn a_failing_verdict_adds_no_row_and_the_request_is_issued_later(rt: HostRuntime) {
     let alloc = rt.alloc();
-    let mut keeper = MemoryKeeper::new(alloc, KeeperPlan::new(alloc));
-    keep(&rt, alloc, &mut keeper, &own(&rt, alloc, 5));
+    let mut keeper = own_rows(&rt, alloc);
     let mut plan = FailPlan::new(alloc);
     assert!(rt; plan.push(5).is_ok());
     let mut provider = provider(&rt, alloc, plan, true);
-    let setup = setup(&rt, alloc, BARE);
-    let today = day(&rt, b"240101");
-    let first = issue(alloc, &setup, 0, today, REQUEST, &mut keeper, &mut provider);
-    assert!(rt; has_failed(&first));
-    assert!(rt; matches!(keeper.count(alloc, Table::Issued, 0), Ok(0)));
-    let second = issue(alloc, &setup, 0, today, REQUEST, &mut keeper, &mut provider);
-    assert!(rt; is_issued(&second));
+    let first = ask(&rt, alloc, b"240101", &mut keeper, &mut provider);
+    assert!(rt; has_failed(first));
+    let count = keeper.count(alloc, Table::Issued, 0).ok();
+    assert!(rt; matches!(count, Some(0)));
+    let second = ask(&rt, alloc, b"240101", &mut keeper, &mut provider);
+    assert!(rt; is_issued(second));
+    drop(keeper);
+    drop(provider);
 }
 
 /// What a request comes upon.
@@ -334,24 +352,14 @@ fn asked(rt: &impl Abort, alloc: Global, world: &World) -> Octets {
 fn rows(rt: &impl Abort, alloc: Global, world: &World) -> MemoryKeeper {
     let mut keeper = MemoryKeeper::new(alloc, KeeperPlan::new(alloc));
     if world.own {
-        keep(rt, alloc, &mut keeper, &own(rt, alloc, world.domain));
+        keep(rt, alloc, &mut keeper, own(rt, alloc, world.domain));
     }
-    keep(rt, alloc, &mut keeper, &home(rt, alloc, world.home));
+    keep(rt, alloc, &mut keeper, home(rt, alloc, world.home));
     if world.used {
-        keep(
-            rt,
-            alloc,
-            &mut keeper,
-            &earlier(rt, alloc, b"DEDVBUND00001"),
-        );
+        keep(rt, alloc, &mut keeper, earlier(rt, alloc, b"DEDVBUND00001"));
     }
     if world.live {
-        keep(
-            rt,
-            alloc,
-            &mut keeper,
-            &earlier(rt, alloc, b"DEDVBUND00009"),
-        );
+        keep(rt, alloc, &mut keeper, earlier(rt, alloc, b"DEDVBUND00009"));
     }
     keeper
 }
@@ -361,16 +369,20 @@ fn served(rt: &impl Abort, alloc: Global, world: &World) -> Result<Answer, Issue
     let mut provider = provider(rt, alloc, FailPlan::new(alloc), world.good);
     let setup = setup(rt, alloc, world.setup);
     let request = asked(rt, alloc, world);
-    let today = day(rt, world.day);
-    issue(
+    let answer = issue(
         alloc,
         &setup,
         0,
-        today,
+        day(rt, world.day),
         request.as_slice(),
         &mut keeper,
         &mut provider,
-    )
+    );
+    drop(keeper);
+    drop(provider);
+    drop(setup);
+    drop(request);
+    answer
 }
 
 /// For each rule a world in which it is the first that is broken, and wherever that can be the next ones are broken too.
@@ -525,9 +537,43 @@ const FIRST: [(u8, World); 17] = [
 fn the_first_rule_that_is_broken_is_answered(rt: HostRuntime) {
     let alloc = rt.alloc();
     for (rule, world) in &FIRST {
-        let answer = served(&rt, alloc, world);
-        assert_eq!(rt; broken(&answer), Some(*rule));
+        let broken = broken(served(&rt, alloc, world));
+        assert!(rt; broken == Some(*rule));
     }
+}
+
+// What is answered on 2024-01-01 at a desk that counts so many rows, with a key that is valid until this day.
+fn first_counted(
+    rt: &impl Abort,
+    alloc: Global,
+    request: &Request,
+    until: &[u8; 6],
+    count: u64,
+) -> Option<Rule> {
+    let registration = Registration {
+        desk: 0,
+        holder: request.body.holder.holder(),
+        role: Role::Domestic,
+        rights: Rights::from_bits(3).expect(rt, "there are such rights"),
+        days: 90,
+        live_limit: 3,
+        first: First::Bare,
+        suspended: false,
+    };
+    let seen = Seen {
+        signing: Some(Signing {
+            reference: reference(rt, b"DECVCA00001"),
+            key: key(rt, alloc, 1, 5),
+            settled: settled(rt, alloc, until),
+        }),
+        vouching: None,
+        held: 0,
+        live: 0,
+        count,
+    };
+    let first = first_of_seen(day(rt, b"240101"), request, &registration, &seen);
+    drop(seen);
+    first
 }
 
 // 100,000 rows don't stand in a test, so here they are only said to have been counted.
@@ -535,34 +581,14 @@ fn the_first_rule_that_is_broken_is_answered(rt: HostRuntime) {
 fn a_full_desk_is_told_after_a_short_time(rt: HostRuntime) {
     let alloc = rt.alloc();
     let request = read_request(alloc, REQUEST).expect(&rt, "it is a request");
-    let registration = Registration {
-        desk: 0,
-        holder: request.body.holder.holder(),
-        role: Role::Domestic,
-        rights: Rights::from_bits(3).expect(&rt, "there are such rights"),
-        days: 90,
-        live_limit: 3,
-        first: First::Bare,
-        suspended: false,
-    };
     let cases: [(&[u8; 6], u64, Option<Rule>); 3] = [
         (b"240114", 100_000, Some(Rule::Short)),
         (b"240115", 100_000, Some(Rule::Full)),
         (b"240115", 99_999, None),
     ];
     for (until, count, rule) in cases {
-        let seen = Seen {
-            signing: Some(Signing {
-                reference: reference(&rt, b"DECVCA00001"),
-                key: key(&rt, alloc, 1, 5),
-                settled: settled(&rt, alloc, until),
-            }),
-            vouching: None,
-            held: 0,
-            live: 0,
-            count,
-        };
-        let first = first_of_seen(day(&rt, b"240101"), &request, &registration, &seen);
-        assert_eq!(rt; first, rule);
+        let first = first_counted(&rt, alloc, &request, until, count);
+        assert!(rt; first == rule);
     }
+    drop(request);
 }
