@@ -11,8 +11,9 @@ use Rattle.eac_cli.specs.declared.running.Stop.{Stop}
 use Rattle.eac_cli.specs.declared.running.Stop.TheVariants.{WriteFault as StopWriteFault, NoMemory as StopNoMemory}
 use Rattle.eac_cli.specs.declared.tool.Status.{Status}
 use Rattle.eac_cli.specs.declared.tool.Status.TheVariants.{Done, Usage, ScriptFault, TooLong, ReadFault, WriteFault, NoMemory}
+use Rattle.eac_cli.specs.Objects.{Objects, ReadFailed, WriteFailed}
 use Rattle.eac_cli.specs.Script.{IsScript, IsFault}
-use Rattle.eac_cli.specs.Top.{Shows, IsShown, WasRead, Whole, Stopped, Claim, IsComplete, TellsFault, TellsLength, IsRunStatus, status_of}
+use Rattle.eac_cli.specs.Top.{Shows, IsShown, WasRead, Whole, Stopped, Claim, IsComplete, TellsFault, TellsLength, RunCall, ShowCall, IsRunStatus, status_of}
 use Rattle.eac_cli.proofs.Orders.{no_fault, fault_is_one}
 
 module _ (rows rows' : Option (List Row)) (f f' : ℕ) (s t left : Option (List ℕ)) (bytes : List ℕ) (done : ℕ) where
@@ -118,3 +119,13 @@ module _ (s t : Option (List ℕ)) (status : Status) (R W : Type 0) where
   shown_length None left' h read = tt
   shown_length (Some all) None h read = absurd h.1
   shown_length (Some all) (Some rest) h read = length_at s t all h.0 rest h.1 R W status h.2 read
+
+-- ---- a whole call
+
+pub run_call : (before after : Objects) (status told : Status) (done count : ℕ) → told ≡ status → count ≡ done → (bytes : List ℕ) × Consumes before.left after.left bytes × Claim before.rows after.rows before.keeper_faults after.keeper_faults before.taken after.taken after.left status done bytes → IfSome before.left (λ bytes. IsComplete bytes (ReadFailed before after) (WriteFailed before after) status) → IfSome before.left (λ bytes. TellsFault bytes (ReadFailed before after) status) → IfSome before.left (λ bytes. TellsLength bytes (ReadFailed before after) status) → RunCall before after told count
+run_call before after status told done count same all claim complete faulty too_long =
+    subst (λ (x : Status × ℕ). RunCall before after x.0 x.1) (λ i. (sym same i, sym all i)) (record { claim = claim; complete = complete; faulty = faulty; too_long = too_long })
+
+pub show_call : (before after : Objects) (status told : Status) → told ≡ status → (bytes : List ℕ) × Consumes before.left after.left bytes × Shows before.taken after.taken after.left status bytes → IfSome before.left (λ bytes. IsShown bytes (ReadFailed before after) (WriteFailed before after) status) → IfSome before.left (λ bytes. TellsLength bytes (ReadFailed before after) status) → ShowCall before after told
+show_call before after status told same shows shown too_long =
+    subst (ShowCall before after) (sym same) (record { shows = shows; shown = shown; too_long = too_long })

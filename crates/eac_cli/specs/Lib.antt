@@ -1,5 +1,6 @@
 pub mod Journal
 pub mod LineGrammar
+pub mod Objects
 pub mod Script
 pub mod ScriptLaws
 pub mod Show

@@ -1,6 +1,6 @@
 -- What the top call did, by its status (this project's own).
-use Rattle.std.specs.Prelude.{◌≡◌, ◌⊎◌, ℕ, ◌<◌, ◌≤◌, List, [], ◌∷◌, ◌++◌, length, map, take, codes, Option, Some, None, slice_get, if◌then◌else◌}
-use Rattle.std.specs.Io.KnownBytes.{IsAtEnd, Appends}
+use Rattle.std.specs.Prelude.{◌≡◌, ◌⊎◌, ℕ, ◌<◌, ◌≤◌, List, [], ◌∷◌, ◌++◌, length, map, take, codes, Option, Some, None, IfSome, slice_get, if◌then◌else◌}
+use Rattle.std.specs.Io.KnownBytes.{Consumes, IsAtEnd, Appends}
 use Rattle.std.specs.Str.{bytes_eq}
 use Rattle.eac_base.specs.Causes.{Rose, AppendsFront}
 use Rattle.eac_base.specs.Telling.{Told}
@@ -18,6 +18,7 @@ use Rattle.eac_cli.specs.declared.tool.Command.{Command}
 use Rattle.eac_cli.specs.declared.tool.Command.TheVariants.{Run, Show}
 use Rattle.eac_cli.specs.declared.tool.Status.{Status}
 use Rattle.eac_cli.specs.declared.tool.Status.TheVariants.{Done, Usage, ScriptFault, TooLong, ReadFault, WriteFault, NoMemory}
+use Rattle.eac_cli.specs.Objects.{Objects, ReadFailed, WriteFailed}
 use Rattle.eac_cli.specs.Script.{later_day, IsScript, IsFault}
 use Rattle.eac_cli.specs.Show.{show_text}
 use Rattle.eac_cli.specs.State.{State, first_state}
@@ -149,6 +150,25 @@ TellsFault bytes read status = (line rule : ℕ) → IsFault bytes line rule →
 -- Where no read failed, more bytes than the limit are too long, but for want of memory.
 abbrev pub TellsLength : List ℕ → Type 0 → Status → Type 0
 TellsLength bytes read status = most_input < length bytes → ¬ read → (status ≡ TooLong) ⊎ (status ≡ NoMemory)
+
+-- ---- one call
+
+-- One call of `run`, from the objects before it to those after it.
+pub record RunCall (before after : Objects) (status : Status) (done : ℕ) : Type 0 where
+  -- the bytes that were read, and by the status what was done with them
+  pub claim : (bytes : List ℕ) × Consumes before.left after.left bytes × Claim before.rows after.rows before.keeper_faults after.keeper_faults before.taken after.taken after.left status done bytes
+  -- where the source tells its bytes, a script is run, a fault is told, and too much is too long
+  pub complete : IfSome before.left (λ bytes. IsComplete bytes (ReadFailed before after) (WriteFailed before after) status)
+  pub faulty : IfSome before.left (λ bytes. TellsFault bytes (ReadFailed before after) status)
+  pub too_long : IfSome before.left (λ bytes. TellsLength bytes (ReadFailed before after) status)
+
+-- One call of `show`, from the objects before it to those after it.
+pub record ShowCall (before after : Objects) (status : Status) : Type 0 where
+  -- the bytes that were read, and by the status what was printed of them
+  pub shows : (bytes : List ℕ) × Consumes before.left after.left bytes × Shows before.taken after.taken after.left status bytes
+  -- where the source tells its bytes, they are shown, and too much is too long
+  pub shown : IfSome before.left (λ bytes. IsShown bytes (ReadFailed before after) (WriteFailed before after) status)
+  pub too_long : IfSome before.left (λ bytes. TellsLength bytes (ReadFailed before after) status)
 
 -- ---- small words of the program's functions
 

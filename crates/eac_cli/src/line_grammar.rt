@@ -1,5 +1,5 @@
 // One line of a script by itself.
-ghost use Rattle.std.specs.Prelude.{◌≡◌, ℕ, List, [], ◌∷◌, ◌==◌, ◌&&◌, length};
+ghost use Rattle.std.specs.Prelude.{◌≡◌, ℕ, List, [], ◌∷◌, ◌==◌, ◌&&◌, length, Some};
 ghost use Rattle.std.specs.Option.{option_copied};
 ghost use Rattle.eac_base.specs.Answers.{Answers, some_or};
 ghost use Rattle.policy_limits.specs.Lines.{pieces_left};
@@ -18,21 +18,21 @@ use std::alloc::Global;
 const MOST_BYTES: usize = 4096;
 
 /// Reads DATE.
-fn day_of(date: &[u8]) -> Result<Event, LineRefusal>
-    ensures { Answers (λ event. event) rule_of result (day_of date.now) }
+fn day_of(date: &[u8]) -> Result<Event, LineRule>
+    ensures { Answers (λ event. event) (λ rule. Some rule) result (day_of date.now) }
 {
     match day_from_text(date) {
         Ok(day) => Ok(Event::Day { day }),
-        Err(_) => Err(LineRefusal::Rule(LineRule::Grammar)),
+        Err(_) => Err(LineRule::Grammar),
     }
 }
 
 /// The event of a reference with these bytes.
-fn ask_with(reference: Reference, bytes: Octets) -> Result<Event, LineRefusal>
-    ensures { Answers (λ event. event) rule_of result (ask_with reference bytes) }
+fn ask_with(reference: Reference, bytes: Octets) -> Result<Event, LineRule>
+    ensures { Answers (λ event. event) (λ rule. Some rule) result (ask_with reference bytes) }
 {
     if MOST_BYTES < bytes.len() {
-        return Err(LineRefusal::Rule(LineRule::Limit));
+        return Err(LineRule::Limit);
     }
     Ok(Event::Ask { reference, bytes })
 }
@@ -44,19 +44,20 @@ fn ask_of(alloc: Global, reference: &[u8], hex: &[u8]) -> Result<Event, LineRefu
     let Ok(reference) = read_reference(reference) else {
         return Err(LineRefusal::Rule(LineRule::Grammar));
     };
-    match read_hex(alloc, hex) {
-        Ok(bytes) => ask_with(reference, bytes),
-        Err(refusal) => Err(refusal),
+    let bytes = read_hex(alloc, hex)?;
+    match ask_with(reference, bytes) {
+        Ok(event) => Ok(event),
+        Err(rule) => Err(LineRefusal::Rule(rule)),
     }
 }
 
 /// Reads what stands behind the word `day`.
-fn read_day(rest: Option<&[u8]>) -> Result<Event, LineRefusal>
-    ensures { Answers (λ event. event) rule_of result (day_said (pieces_left (option_copied rest.entry))) }
+fn read_day(rest: Option<&[u8]>) -> Result<Event, LineRule>
+    ensures { Answers (λ event. event) (λ rule. Some rule) result (day_said (pieces_left (option_copied rest.entry))) }
 {
     match one_word(rest) {
         Some(date) => day_of(date),
-        None => Err(LineRefusal::Rule(LineRule::Grammar)),
+        None => Err(LineRule::Grammar),
     }
 }
 
@@ -79,7 +80,10 @@ pub fn read_event(alloc: Global, line: &[u8]) -> Result<Event, LineRefusal>
     }
     let (kind, rest) = cut(line);
     if is_same(kind, b"day") {
-        return read_day(rest);
+        return match read_day(rest) {
+            Ok(event) => Ok(event),
+            Err(rule) => Err(LineRefusal::Rule(rule)),
+        };
     }
     if is_same(kind, b"ask") {
         return read_ask(alloc, rest);

@@ -1,9 +1,10 @@
 // The top call.
-ghost use Rattle.std.specs.Prelude.{◌≡◌, ◌≢◌, ℕ, ◌<◌, ◌≤◌, List, [], ◌∷◌, length, None, Some, Err, IfSome, IsSome};
+ghost use Rattle.std.specs.Prelude.{◌≡◌, ◌≢◌, ℕ, ◌<◌, ◌≤◌, List, [], ◌∷◌, length, None, Some, Err, IfSome};
 ghost use Rattle.std.specs.declared.option.Option.{Option};
 ghost use Rattle.std.specs.Io.KnownBytes.{Consumes, IsAtEnd};
 ghost use Rattle.eac_base.specs.Causes.{Rose};
-ghost use Rattle.eac_cli.specs.Top.{command_named, command_of, most_input, Shows, IsShown, Claim, IsComplete, TellsFault, TellsLength, IsRunStatus, status_of, number_of_status};
+ghost use Rattle.eac_cli.specs.Objects.{objects};
+ghost use Rattle.eac_cli.specs.Top.{command_named, command_of, most_input, Shows, IsShown, Claim, IsComplete, TellsFault, TellsLength, RunCall, ShowCall, IsRunStatus, status_of, number_of_status};
 
 use crate::running::{Stop, run_lines};
 use crate::script::{ScriptRefusal, read_script};
@@ -233,15 +234,10 @@ pub fn run_tool<S: Source, K: Sink, B: Keeper>(
     // `Usage` exactly where the words are none of a command; then nothing was asked of the outside.
     ensures usage { result.status ≡ Status.Usage → command_of words.now ≡ None }
     ensures other_words { command_of words.now ≡ None → (result.status ≡ Status.Usage) × (result.done ≡ 0) × (source.new ≡ source.old) × (sink.new ≡ sink.old) × (keeper.new ≡ keeper.old) }
-    // `run`: the bytes that were read, what the sink took, and the rows, by the status.
-    ensures run { command_of words.now ≡ Some Command.Run → (bytes : List ℕ) × Consumes (S.left source.old) (S.left source.new) bytes × Claim (B.rows keeper.old) (B.rows keeper.new) (B.faults keeper.old) (B.faults keeper.new) (K.taken sink.old) (K.taken sink.new) (S.left source.new) result.status result.done bytes }
-    // Where the source tells its bytes, a script is run, a fault is told, and too much is too long.
-    ensures complete { command_of words.now ≡ Some Command.Run → IfSome (S.left source.old) (λ bytes. IsComplete bytes (Rose (S.faults source.old) (S.faults source.new)) (Rose (K.faults sink.old) (K.faults sink.new)) result.status) }
-    ensures faulty { command_of words.now ≡ Some Command.Run → IfSome (S.left source.old) (λ bytes. TellsFault bytes (Rose (S.faults source.old) (S.faults source.new)) result.status) }
-    ensures too_long { IsSome (command_of words.now) → IfSome (S.left source.old) (λ bytes. TellsLength bytes (Rose (S.faults source.old) (S.faults source.new)) result.status) }
-    // `show`: the bytes that were read, and what the sink took. No row is asked for.
-    ensures show { command_of words.now ≡ Some Command.Show → (bytes : List ℕ) × Consumes (S.left source.old) (S.left source.new) bytes × Shows (K.taken sink.old) (K.taken sink.new) (S.left source.new) result.status bytes }
-    ensures shown { command_of words.now ≡ Some Command.Show → IfSome (S.left source.old) (λ bytes. IsShown bytes (Rose (S.faults source.old) (S.faults source.new)) (Rose (K.faults sink.old) (K.faults sink.new)) result.status) }
+    // What a command did, from the objects before the call to those after it.
+    ensures run { command_of words.now ≡ Some Command.Run → RunCall (objects S.Source K.Sink B.Keeper source.old sink.old keeper.old) (objects S.Source K.Sink B.Keeper source.new sink.new keeper.new) result.status result.done }
+    ensures show { command_of words.now ≡ Some Command.Show → ShowCall (objects S.Source K.Sink B.Keeper source.old sink.old keeper.old) (objects S.Source K.Sink B.Keeper source.new sink.new keeper.new) result.status }
+    // `show` asks for no row.
     ensures show_keeps { command_of words.now ≡ Some Command.Show → (result.done ≡ 0) × (keeper.new ≡ keeper.old) }
     // A failure of the outside is told only where that object counted one.
     ensures read { result.status ≡ Status.ReadFault → Rose (S.faults source.old) (S.faults source.new) }

@@ -1,9 +1,8 @@
-use Rattle.std.proofs.Common.{sym, subst}
-use Rattle.std.specs.Prelude.{IfSome}
-use Rattle.eac_base.specs.Causes.{Rose}
-use Rattle.eac_cli.specs.declared.tool.Status.{Status}
-use Rattle.eac_cli.specs.Top.{TellsFault}
+use Rattle.eac_cli.proofs.Ends.{run_call, show_call}
 use Rattle.eac_cli.proofs.tool.run_tool.Goals as goal
 
-pub returns-in-Some-Run-clause-faulty : goal.returns-in-Some-Run-clause-faulty
-returns-in-Some-Run-clause-faulty g c words = subst (λ (x : Status). IfSome (g.S.Source.left c.args.source.now) (λ bytes. TellsFault bytes (Rose (g.S.Source.faults c.args.source.now) (g.S.Source.faults c.run_source-status.new.source)) x)) (sym c.reported-in-Some-Run.ensures.0) c.run_source-status.ensures.faulty
+pub returns-in-Some-Run-clause-run : goal.returns-in-Some-Run-clause-run
+returns-in-Some-Run-clause-run g c words = run_call _ _ c.run_source-status.result.0 _ c.run_source-status.result.1 _ c.reported-in-Some-Run.ensures.0 c.reported-in-Some-Run.ensures.1 c.run_source-status.ensures.claim c.run_source-status.ensures.complete c.run_source-status.ensures.faulty c.run_source-status.ensures.too_long
+
+pub returns-in-Some-Show-clause-show : goal.returns-in-Some-Show-clause-show
+returns-in-Some-Show-clause-show g c words = show_call _ _ c.show_source-status.result _ c.reported-in-Some-Show.ensures.0 c.show_source-status.ensures.shows c.show_source-status.ensures.shown c.show_source-status.ensures.too_long
