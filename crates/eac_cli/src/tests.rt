@@ -1,13 +1,16 @@
 // What no clause says: that the calls find memory, and the texts and numbers of worked examples.
+//
+// The tool is called at one place, `call_over`, which gives plain values. Owned values are let go by a call of `drop`:
+// at the end of a scope, and at each `?`, every part of them would be proved apart.
 ghost use Rattle.std.specs.Prelude.{◌≡◌, ◌≤◌, ◌<◌, ℕ, length, IfOk, Some};
 ghost use Rattle.std.specs.Io.{WritesAtMost};
 ghost use Rattle.std.specs.Io.KnownBytes.{WriteAppends};
 
 use crate::tool::{Report, Status, run_tool};
-use eac_base::{FailPlan, Failed, MemorySink, MemorySource, NoMemory, Octets, Sink, Source, Words};
+use eac_base::{FailPlan, Failed, MemorySink, MemorySource, Octets, Sink, Source, Words};
 use keeper::{KeeperPlan, MemoryKeeper, Moment};
 use std::alloc::Global;
-use std::test::Fail;
+use std::process::Abort;
 
 // Room for every journal of these tests.
 const ROOM: u64 = 4096;
@@ -39,51 +42,131 @@ impl Sink for Dripping {
     }
 }
 
-fn words_of(alloc: Global, list: &[&[u8]]) -> Result<Words, NoMemory> {
+/// What the outside of a call does.
+#[derive(Clone, Copy)]
+struct Outside {
+    /// The most bytes that a read gives.
+    most: u64,
+    /// A place that no read goes over; 0 is none.
+    cut: u64,
+    /// The read, the write and the keeper's call that fail.
+    read: Option<u64>,
+    write: Option<u64>,
+    keep: Option<(u64, Moment)>,
+}
+
+/// No call fails.
+const CALM: Outside = Outside {
+    most: 4096,
+    cut: 0,
+    read: None,
+    write: None,
+    keep: None,
+};
+
+fn octets(rt: &impl Abort, alloc: Global, bytes: &[u8]) -> Octets {
+    Octets::from_slice(alloc, bytes).expect(rt, "memory is there")
+}
+
+fn words_of(rt: &impl Abort, alloc: Global, list: &[&[u8]]) -> Words {
     let mut words = Words::new(alloc);
     for word in list {
-        words.push(word)?;
+        words.push(word).expect(rt, "memory is there");
     }
-    Ok(words)
+    words
 }
 
-fn plan_of(alloc: Global, calls: &[u64]) -> Result<FailPlan, NoMemory> {
+fn plan_of(rt: &impl Abort, alloc: Global, call: Option<u64>) -> FailPlan {
     let mut plan = FailPlan::new(alloc);
-    for call in calls {
-        plan.push(*call)?;
+    if let Some(call) = call {
+        plan.push(call).expect(rt, "memory is there");
     }
-    Ok(plan)
+    plan
 }
 
-// Runs a script in memory: at most `most` bytes a read and none over the place `cut`, and the calls that fail.
-fn run_with<K: Sink>(
-    alloc: Global,
-    script: &[u8],
-    most: u64,
-    cut: u64,
-    reads: &[u64],
-    keeps: KeeperPlan,
-    sink: &mut K,
-) -> Result<Report, NoMemory>
-    requires { 1 ≤ most }
+fn source_of(rt: &impl Abort, alloc: Global, outside: &Outside, input: &[u8]) -> MemorySource
+    requires { 1 ≤ outside.now.most }
 {
-    let words = words_of(alloc, &[b"run".as_slice()])?;
-    let script = Octets::from_slice(alloc, script)?;
-    let mut source = MemorySource::new(script, most, cut, plan_of(alloc, reads)?);
-    let mut keeper = MemoryKeeper::new(alloc, keeps);
-    Ok(run_tool(alloc, &words, &mut source, sink, &mut keeper))
+    let plan = plan_of(rt, alloc, outside.read);
+    let input = octets(rt, alloc, input);
+    MemorySource::new(input, outside.most, outside.cut, plan)
 }
 
-// Runs a script of which no call fails. Gives the report and the journal.
-fn run(alloc: Global, script: &[u8]) -> Result<(Report, Octets), NoMemory> {
-    let mut sink = MemorySink::new(alloc, ROOM, FailPlan::new(alloc))?;
-    let keeps = KeeperPlan::new(alloc);
-    let report = run_with(alloc, script, 4096, 0, &[], keeps, &mut sink)?;
-    Ok((report, Octets::from_slice(alloc, sink.bytes())?))
+fn sink_of(rt: &impl Abort, alloc: Global, outside: &Outside) -> MemorySink {
+    let plan = plan_of(rt, alloc, outside.write);
+    MemorySink::new(alloc, ROOM, plan).expect(rt, "memory is there")
+}
+
+fn keeper_of(rt: &impl Abort, alloc: Global, outside: &Outside) -> MemoryKeeper {
+    let mut plan = KeeperPlan::new(alloc);
+    if let Some(call) = outside.keep {
+        plan.push(call).expect(rt, "memory is there");
+    }
+    MemoryKeeper::new(alloc, plan)
+}
+
+// The status, and how many events are done. No chip acknowledges here.
+fn ended(rt: &impl Abort, report: Report) -> (Status, u64) {
+    assert!(rt; report.acks.len() == 0);
+    let ended = (report.status, report.done);
+    drop(report);
+    ended
+}
+
+// Calls the tool with these words over this input and sink.
+fn call_over<K: Sink>(
+    rt: &impl Abort,
+    alloc: Global,
+    list: &[&[u8]],
+    outside: &Outside,
+    input: &[u8],
+    sink: &mut K,
+) -> (Status, u64)
+    requires { 1 ≤ outside.now.most }
+{
+    let words = words_of(rt, alloc, list);
+    let mut source = source_of(rt, alloc, outside, input);
+    let mut keeper = keeper_of(rt, alloc, outside);
+    let report = run_tool(alloc, &words, &mut source, sink, &mut keeper);
+    drop(words);
+    drop(source);
+    drop(keeper);
+    ended(rt, report)
+}
+
+// The same over a sink in memory, which has to have this text in the end.
+fn call(
+    rt: &impl Abort,
+    alloc: Global,
+    list: &[&[u8]],
+    outside: &Outside,
+    input: &[u8],
+    text: &[u8],
+) -> (Status, u64)
+    requires { 1 ≤ outside.now.most }
+{
+    let mut sink = sink_of(rt, alloc, outside);
+    let ended = call_over(rt, alloc, list, outside, input, &mut sink);
+    assert!(rt; sink.bytes() == text);
+    drop(sink);
+    ended
+}
+
+// Runs a script that has to leave this journal.
+fn run(
+    rt: &impl Abort,
+    alloc: Global,
+    outside: &Outside,
+    script: &[u8],
+    journal: &[u8],
+) -> (Status, u64)
+    requires { 1 ≤ outside.now.most }
+{
+    call(rt, alloc, &[b"run".as_slice()], outside, script, journal)
 }
 
 #[test]
-fn scripts_have_these_journals(rt: HostRuntime) -> Result<(), Fail> {
+fn scripts_have_these_journals(rt: HostRuntime) {
     let alloc = rt.alloc();
     let table: [(&[u8], u64, &[u8]); 9] = [
         (FIRST, 2, b"2: issued DEDVBUND00001 240101\n"),
@@ -114,17 +197,13 @@ fn scripts_have_these_journals(rt: HostRuntime) -> Result<(), Fail> {
         (b"dv DEDVBUND\n", 0, b""),
     ];
     for (script, done, journal) in table {
-        let (report, written) = run(alloc, script)?;
-        assert_eq!(rt; report.status, Status::Done);
-        assert_eq!(rt; report.done, done);
-        assert_eq!(rt; report.acks.len(), 0);
-        assert_eq!(rt; written.as_slice(), journal);
+        let ended = run(&rt, alloc, &CALM, script, journal);
+        assert!(rt; ended == (Status::Done, done));
     }
-    Ok(())
 }
 
 #[test]
-fn the_first_fault_is_told_with_its_least_rule(rt: HostRuntime) -> Result<(), Fail> {
+fn the_first_fault_is_told_with_its_least_rule(rt: HostRuntime) {
     let alloc = rt.alloc();
     let table: [(&[u8], u64, u8); 14] = [
         (b"day 240101\nask DEDVBUND0000a 01\n", 2, 1),
@@ -143,12 +222,9 @@ fn the_first_fault_is_told_with_its_least_rule(rt: HostRuntime) -> Result<(), Fa
         (b"day 240102\nday 240101\nday 24010\n", 2, 5),
     ];
     for (script, line, rule) in table {
-        let (report, written) = run(alloc, script)?;
-        assert_eq!(rt; report.status, Status::ScriptFault { line, rule });
-        assert_eq!(rt; report.done, 0);
-        assert!(rt; written.as_slice().is_empty());
+        let ended = run(&rt, alloc, &CALM, script, b"");
+        assert!(rt; ended == (Status::ScriptFault { line, rule }, 0));
     }
-    Ok(())
 }
 
 // An authority, a verifier with a registration there, and an inspection system: five lines, with a comment.
@@ -237,64 +313,63 @@ const BEHIND_FIVE: [(&[u8], u64, u8); 46] = [
     (b"day 240102\nday 240101\ndv FRDV1", 7, 5),
 ];
 
-#[test]
-fn setup_lines_and_event_lines_are_told_by_their_rules(rt: HostRuntime) -> Result<(), Fail> {
-    let alloc = rt.alloc();
-    for (behind, line, rule) in BEHIND_FIVE {
-        let mut script = Octets::from_slice(alloc, FIVE)?;
-        script.push_all(behind)?;
-        let (report, written) = run(alloc, script.as_slice())?;
-        assert_eq!(rt; report.status, Status::ScriptFault { line, rule });
-        assert!(rt; written.as_slice().is_empty());
-    }
-    Ok(())
-}
-
 // A script of this head, so many times the piece, and this tail.
 fn repeated(
+    rt: &impl Abort,
     alloc: Global,
     head: &[u8],
     piece: &[u8],
     times: u64,
     tail: &[u8],
-) -> Result<Octets, NoMemory> {
-    let mut script = Octets::from_slice(alloc, head)?;
+) -> Octets {
+    let mut script = octets(rt, alloc, head);
     for _ in 0..times {
-        script.push_all(piece)?;
+        script.push_all(piece).expect(rt, "memory is there");
     }
-    script.push_all(tail)?;
-    Ok(script)
+    script.push_all(tail).expect(rt, "memory is there");
+    script
+}
+
+// Runs a made script, of which no call fails.
+fn run_made(rt: &impl Abort, alloc: Global, script: Octets, journal: &[u8]) -> (Status, u64) {
+    let ended = run(rt, alloc, &CALM, script.as_slice(), journal);
+    drop(script);
+    ended
 }
 
 #[test]
-fn limits_are_told_past_them_alone(rt: HostRuntime) -> Result<(), Fail> {
+fn setup_lines_and_event_lines_are_told_by_their_rules(rt: HostRuntime) {
     let alloc = rt.alloc();
-    let longest = repeated(alloc, b"day 240101\nask DEDVBUND00001 ", b"01", 4096, b"\n")?;
-    let (report, _) = run(alloc, longest.as_slice())?;
-    assert_eq!(rt; report.status, Status::Done);
-    let longer = repeated(alloc, b"day 240101\nask DEDVBUND00001 ", b"01", 4097, b"\n")?;
-    let (report, _) = run(alloc, longer.as_slice())?;
-    assert_eq!(rt; report.status, Status::ScriptFault { line: 2, rule: 2 });
-    let most = repeated(alloc, b"", b"day 240101\n", 20_000, b"")?;
-    let (report, _) = run(alloc, most.as_slice())?;
-    assert_eq!(rt; report.status, Status::Done);
-    assert_eq!(rt; report.done, 20_000);
-    let more = repeated(alloc, b"", b"day 240101\n", 20_001, b"")?;
-    let (report, _) = run(alloc, more.as_slice())?;
-    assert_eq!(rt;
-        report.status,
-        Status::ScriptFault {
-            line: 20_001,
-            rule: 7
-        }
-    );
-    let comments = repeated(alloc, b"", b"# 4,194,304\n", 349_525, b"#345")?;
-    let (report, _) = run(alloc, comments.as_slice())?;
-    assert_eq!(rt; report.status, Status::Done);
-    let long = repeated(alloc, b"", b"# 4,194,305\n", 349_525, b"#3456")?;
-    let (report, _) = run(alloc, long.as_slice())?;
-    assert_eq!(rt; report.status, Status::TooLong);
-    Ok(())
+    for (behind, line, rule) in BEHIND_FIVE {
+        let script = repeated(&rt, alloc, FIVE, behind, 1, b"");
+        let ended = run_made(&rt, alloc, script, b"");
+        assert!(rt; ended == (Status::ScriptFault { line, rule }, 0));
+    }
+}
+
+#[test]
+fn limits_are_told_past_them_alone(rt: HostRuntime) {
+    let alloc = rt.alloc();
+    let ask = b"day 240101\nask DEDVBUND00001 ";
+    let longest = repeated(&rt, alloc, ask, b"01", 4096, b"\n");
+    let ended = run_made(&rt, alloc, longest, b"2: issued DEDVBUND00001 240101\n");
+    assert!(rt; ended == (Status::Done, 2));
+    let longer = repeated(&rt, alloc, ask, b"01", 4097, b"\n");
+    let ended = run_made(&rt, alloc, longer, b"");
+    assert!(rt; ended == (Status::ScriptFault { line: 2, rule: 2 }, 0));
+    let most = repeated(&rt, alloc, b"", b"day 240101\n", 20_000, b"");
+    let ended = run_made(&rt, alloc, most, b"");
+    assert!(rt; ended == (Status::Done, 20_000));
+    let more = repeated(&rt, alloc, b"", b"day 240101\n", 20_001, b"");
+    let ended = run_made(&rt, alloc, more, b"");
+    let (line, rule) = (20_001, 7);
+    assert!(rt; ended == (Status::ScriptFault { line, rule }, 0));
+    let comments = repeated(&rt, alloc, b"", b"# 4,194,304\n", 349_525, b"#345");
+    let ended = run_made(&rt, alloc, comments, b"");
+    assert!(rt; ended == (Status::Done, 0));
+    let long = repeated(&rt, alloc, b"", b"# 4,194,305\n", 349_525, b"#3456");
+    let ended = run_made(&rt, alloc, long, b"");
+    assert!(rt; ended == (Status::TooLong, 0));
 }
 
 // The founding certificate of an authority: 183 bytes, elliptic with its domain, rights 03, for three years.
@@ -316,21 +391,17 @@ const FOUNDING: &[u8] = &[
 const FOUNDING_SHOWN: &[u8] =
     b"authority DECVCA00001\nholder DECVCA00001\nrole cvca\nrights 03\nfrom 240101\nuntil 270101\nalgorithm 2.3\ndomain 15\npoint 8\nextensions none\nsignature 64\n";
 
-fn show(alloc: Global, bytes: &[u8]) -> Result<(Report, Octets), NoMemory> {
-    let words = words_of(alloc, &[b"show".as_slice()])?;
-    let input = Octets::from_slice(alloc, bytes)?;
-    let mut source = MemorySource::new(input, 100, 0, FailPlan::new(alloc));
-    let mut sink = MemorySink::new(alloc, ROOM, FailPlan::new(alloc))?;
-    let mut keeper = MemoryKeeper::new(alloc, KeeperPlan::new(alloc));
-    let report = run_tool(alloc, &words, &mut source, &mut sink, &mut keeper);
-    Ok((report, Octets::from_slice(alloc, sink.bytes())?))
+// Shows an input, of which this text has to be printed.
+fn show(rt: &impl Abort, alloc: Global, input: &[u8], text: &[u8]) -> (Status, u64) {
+    let outside = Outside { most: 100, ..CALM };
+    call(rt, alloc, &[b"show".as_slice()], &outside, input, text)
 }
 
 #[test]
-fn certificates_are_shown_and_others_refused(rt: HostRuntime) -> Result<(), Fail> {
+fn certificates_are_shown_and_others_refused(rt: HostRuntime) {
     let alloc = rt.alloc();
-    let mut longer = Octets::from_slice(alloc, FOUNDING)?;
-    longer.push_all(b"\0")?;
+    let mut longer = octets(&rt, alloc, FOUNDING);
+    longer.push_all(b"\0").expect(&rt, "memory is there");
     let table: [(&[u8], &[u8]); 5] = [
         (FOUNDING, FOUNDING_SHOWN),
         (&FOUNDING[..182], b"refused 2 at 0\n"),
@@ -339,16 +410,14 @@ fn certificates_are_shown_and_others_refused(rt: HostRuntime) -> Result<(), Fail
         (longer.as_slice(), b"refused 8\n"),
     ];
     for (input, text) in table {
-        let (report, written) = show(alloc, input)?;
-        assert_eq!(rt; report.status, Status::Done);
-        assert_eq!(rt; report.done, 0);
-        assert_eq!(rt; written.as_slice(), text);
+        let ended = show(&rt, alloc, input, text);
+        assert!(rt; ended == (Status::Done, 0));
     }
-    Ok(())
+    drop(longer);
 }
 
 #[test]
-fn other_words_are_usage(rt: HostRuntime) -> Result<(), Fail> {
+fn other_words_are_usage(rt: HostRuntime) {
     let alloc = rt.alloc();
     let table: [&[&[u8]]; 4] = [
         &[],
@@ -357,58 +426,63 @@ fn other_words_are_usage(rt: HostRuntime) -> Result<(), Fail> {
         &[b"run".as_slice(), b"a".as_slice(), b"b".as_slice()],
     ];
     for list in table {
-        let words = words_of(alloc, list)?;
-        let script = Octets::from_slice(alloc, FIRST)?;
-        let mut source = MemorySource::new(script, 4096, 0, FailPlan::new(alloc));
-        let mut sink = MemorySink::new(alloc, ROOM, FailPlan::new(alloc))?;
-        let mut keeper = MemoryKeeper::new(alloc, KeeperPlan::new(alloc));
-        let report = run_tool(alloc, &words, &mut source, &mut sink, &mut keeper);
-        assert_eq!(rt; report.status, Status::Usage);
-        assert!(rt; sink.bytes().is_empty());
+        let ended = call(&rt, alloc, list, &CALM, FIRST, b"");
+        assert!(rt; ended == (Status::Usage, 0));
     }
-    Ok(())
+}
+
+fn run_dripping(rt: &impl Abort, alloc: Global, script: &[u8], journal: &[u8]) -> (Status, u64) {
+    let sink = sink_of(rt, alloc, &CALM);
+    let mut dripping = Dripping { sink };
+    let list = [b"run".as_slice()];
+    let ended = call_over(rt, alloc, &list, &CALM, script, &mut dripping);
+    assert!(rt; dripping.sink.bytes() == journal);
+    drop(dripping);
+    ended
 }
 
 #[test]
-fn pieces_of_any_size_give_the_same_journal(rt: HostRuntime) -> Result<(), Fail> {
+fn pieces_of_any_size_give_the_same_journal(rt: HostRuntime) {
     let alloc = rt.alloc();
     for cut in 0..=REPEATED.len() as u64 {
-        let mut sink = MemorySink::new(alloc, ROOM, FailPlan::new(alloc))?;
         let most = if cut == 0 { 1 } else { 4096 };
-        let keeps = KeeperPlan::new(alloc);
-        let report = run_with(alloc, REPEATED, most, cut, &[], keeps, &mut sink)?;
-        assert_eq!(rt; report.status, Status::Done);
-        assert_eq!(rt; sink.bytes(), REPEATED_JOURNAL);
+        let outside = Outside { most, cut, ..CALM };
+        let ended = run(&rt, alloc, &outside, REPEATED, REPEATED_JOURNAL);
+        assert!(rt; ended == (Status::Done, 5));
     }
-    let sink = MemorySink::new(alloc, ROOM, FailPlan::new(alloc))?;
-    let mut dripping = Dripping { sink };
-    let keeps = KeeperPlan::new(alloc);
-    let report = run_with(alloc, REPEATED, 4096, 0, &[], keeps, &mut dripping)?;
-    assert_eq!(rt; report.status, Status::Done);
-    assert_eq!(rt; dripping.sink.bytes(), REPEATED_JOURNAL);
-    Ok(())
+    let ended = run_dripping(&rt, alloc, REPEATED, REPEATED_JOURNAL);
+    assert!(rt; ended == (Status::Done, 5));
 }
 
 // The repeated script takes two reads, five keeper calls (a look, a count and an adding, then two looks) and three
 // writes.
 #[test]
-fn each_outside_call_fails_in_turn(rt: HostRuntime) -> Result<(), Fail> {
+fn each_outside_call_fails_in_turn(rt: HostRuntime) {
     let alloc = rt.alloc();
     for n in 1..=2 {
-        let mut sink = MemorySink::new(alloc, ROOM, FailPlan::new(alloc))?;
-        let keeps = KeeperPlan::new(alloc);
-        let report = run_with(alloc, REPEATED, 4096, 0, &[n], keeps, &mut sink)?;
-        assert_eq!(rt; report.status, Status::ReadFault);
-        assert_eq!(rt; report.done, 0);
-        assert!(rt; sink.bytes().is_empty());
+        let outside = Outside {
+            read: Some(n),
+            ..CALM
+        };
+        let ended = run(&rt, alloc, &outside, REPEATED, b"");
+        assert!(rt; ended == (Status::ReadFault, 0));
     }
-    for (n, done, length) in [(1, 1, 0), (2, 3, 31), (3, 4, 60)] {
-        let mut sink = MemorySink::new(alloc, ROOM, plan_of(alloc, &[n])?)?;
-        let keeps = KeeperPlan::new(alloc);
-        let report = run_with(alloc, REPEATED, 4096, 0, &[], keeps, &mut sink)?;
-        assert_eq!(rt; report.status, Status::WriteFault);
-        assert_eq!(rt; report.done, done);
-        assert_eq!(rt; sink.bytes().len(), length);
+    let write_table: [(u64, u64, &[u8]); 3] = [
+        (1, 1, b""),
+        (2, 3, b"2: issued DEDVBUND00001 240101\n"),
+        (
+            3,
+            4,
+            b"2: issued DEDVBUND00001 240101\n4: kept DEDVBUND00001 240101\n",
+        ),
+    ];
+    for (n, done, journal) in write_table {
+        let outside = Outside {
+            write: Some(n),
+            ..CALM
+        };
+        let ended = run(&rt, alloc, &outside, REPEATED, journal);
+        assert!(rt; ended == (Status::WriteFault, done));
     }
     let keeper_table: [(u64, Moment, &[u8]); 6] = [
         (
@@ -443,13 +517,11 @@ fn each_outside_call_fails_in_turn(rt: HostRuntime) -> Result<(), Fail> {
         ),
     ];
     for (n, moment, journal) in keeper_table {
-        let mut sink = MemorySink::new(alloc, ROOM, FailPlan::new(alloc))?;
-        let mut keeps = KeeperPlan::new(alloc);
-        keeps.push((n, moment))?;
-        let report = run_with(alloc, REPEATED, 4096, 0, &[], keeps, &mut sink)?;
-        assert_eq!(rt; report.status, Status::Done);
-        assert_eq!(rt; report.done, 5);
-        assert_eq!(rt; sink.bytes(), journal);
+        let outside = Outside {
+            keep: Some((n, moment)),
+            ..CALM
+        };
+        let ended = run(&rt, alloc, &outside, REPEATED, journal);
+        assert!(rt; ended == (Status::Done, 5));
     }
-    Ok(())
 }
