@@ -2,6 +2,7 @@ pub mod StoryLaws
 pub mod StruckLaws
 pub mod Ledger
 pub mod Serves
+pub mod Registering
 pub mod RowLaws
 pub mod DueAnswers
 pub mod Sizes

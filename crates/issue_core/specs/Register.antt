@@ -1,5 +1,5 @@
 -- The plain register as a desk: a reference with bytes is the request, and the day is what is given (this project's own).
-use Rattle.std.specs.Prelude.{◌≡◌, ℕ, ◌≤◌, ◌&&◌, Bool, true, not, nat_le, List, [], ◌∷◌, ◌++◌, length, map, flat_map, Some, None, Ok, Err, IfErr, if◌then◌else◌}
+use Rattle.std.specs.Prelude.{◌≡◌, ◌⊎◌, ℕ, ◌≤◌, ◌&&◌, Bool, true, not, nat_le, List, [], ◌∷◌, ◌++◌, length, map, flat_map, Some, None, Ok, Err, IfErr, if◌then◌else◌}
 use Rattle.std.specs.declared.option.Option.{Option}
 use Rattle.std.specs.declared.result.Result.{Result}
 use Rattle.std.specs.List.{list_any}
@@ -9,6 +9,7 @@ use Rattle.keeper.specs.declared.rows.Part.{Part}
 use Rattle.keeper.specs.declared.rows.Part.TheVariants as part
 use Rattle.std.specs.Str.{bytes_eq}
 use Rattle.keeper.specs.Rows.{is_of, most_rows}
+use Rattle.keeper.specs.Keeping.{IsAsked}
 use Rattle.keeper.specs.declared.rows.Table.TheVariants.{Register as RegisterTable}
 use Rattle.issue_core.specs.declared.rule.Rule.{Rule}
 use Rattle.issue_core.specs.declared.rule.Rule.TheVariants.{Used, Full}
@@ -152,3 +153,17 @@ pub record HasCause {T : Type 0} (before now : ℕ) (result : Result T IssueFaul
   pub later : before ≤ now
   pub failed : result ≡ Err KeeperFault → Rose before now
   pub only : IfErr result IsKeepers
+
+-- ---- for every keeper, whether it tells its rows or not
+
+-- a row of this reference, as any keeper may give it, is answered so
+pub record IsAgain (reference bytes : List ℕ) (answer : RegisterAnswer) : Type 0 where
+  pub row : Row
+  pub asked : IsAsked RegisterTable 0 reference row
+  pub says : answer ≡ again_of row.part bytes
+
+-- why an answer came: the day is today's, or such a row says it, or the keeper says that the table is full
+abbrev pub RegisterCause : (reference bytes day : List ℕ) → RegisterAnswer → Type 0
+RegisterCause reference bytes day (AnswerIssued given) = given ≡ day
+RegisterCause reference bytes day (AnswerKept given) = IsAgain reference bytes (AnswerKept given)
+RegisterCause reference bytes day (AnswerRefused rule) = IsAgain reference bytes (AnswerRefused rule) ⊎ (rule ≡ Full)

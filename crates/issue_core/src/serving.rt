@@ -1,10 +1,10 @@
 // The plain register gives each reference once.
-ghost use Rattle.std.specs.Prelude.{◌≡◌, ◌≤◌, length, IfOk};
+ghost use Rattle.std.specs.Prelude.{◌≡◌, ◌≤◌, ℕ, List, length, IfOk, IfSome};
 ghost use Rattle.eac_base.specs.Telling.{Told};
 ghost use Rattle.keeper.specs.Keeping.{MayAdd};
 ghost use Rattle.keeper.specs.Rows.{row_at, rows_of};
 ghost use Rattle.keeper.specs.declared.rows.Table.TheVariants.{Register as RegisterTable};
-ghost use Rattle.issue_core.specs.Register.{outcome_of, row_of, Serves, again_of, HasCause};
+ghost use Rattle.issue_core.specs.Register.{outcome_of, row_of, Serves, again_of, HasCause, RegisterCause};
 ghost use Rattle.issue_core.specs.Steps.{full_answer, row_answer, looked, Enters, answer_of};
 
 use crate::Rule;
@@ -82,6 +82,7 @@ fn look_at_row<B: Keeper>(
     keeper: &mut B,
 ) -> Result<Option<RegisterAnswer>, IssueFault>
     ensures told { Told (B.rows keeper.old) (B.rows keeper.new) (λ before after. (after ≡ before) × IfOk result (λ o. o ≡ row_answer (row_at RegisterTable 0 reference.now before) request.now)) }
+    ensures answered { (day : List ℕ) → IfOk result (λ o. IfSome o (RegisterCause reference.now request.now day)) }
     ensures cause { HasCause (B.faults keeper.old) (B.faults keeper.new) result }
 {
     match keeper.find(alloc, Table::Register, 0, reference) {
@@ -95,6 +96,7 @@ fn look_at_count<B: Keeper>(
     keeper: &mut B,
 ) -> Result<Option<RegisterAnswer>, IssueFault>
     ensures told { Told (B.rows keeper.old) (B.rows keeper.new) (λ before after. (after ≡ before) × IfOk result (λ o. o ≡ full_answer (length (rows_of RegisterTable 0 before)))) }
+    ensures answered { (reference bytes day : List ℕ) → IfOk result (λ o. IfSome o (RegisterCause reference bytes day)) }
     ensures cause { HasCause (B.faults keeper.old) (B.faults keeper.new) result }
 {
     match keeper.count(alloc, Table::Register, 0) {
@@ -111,6 +113,7 @@ fn look<B: Keeper>(
     keeper: &mut B,
 ) -> Result<Option<RegisterAnswer>, IssueFault>
     ensures told { Told (B.rows keeper.old) (B.rows keeper.new) (λ before after. (after ≡ before) × IfOk result (λ o. o ≡ looked before reference.now request.now)) }
+    ensures answered { (day : List ℕ) → IfOk result (λ o. IfSome o (RegisterCause reference.now request.now day)) }
     ensures cause { HasCause (B.faults keeper.old) (B.faults keeper.new) result }
 {
     match look_at_row(alloc, reference, request, keeper)? {
@@ -148,6 +151,7 @@ fn enter<B: Keeper>(
 ) -> Result<RegisterAnswer, IssueFault>
     requires { length request.now ≤ 65535 }
     ensures told { Told (B.rows keeper.old) (B.rows keeper.new) (λ before after. MayAdd before (row_of reference.now request.now day) → Enters before after (row_of reference.now request.now day) result) }
+    ensures answered { IfOk result (RegisterCause reference.now request.now day) }
     ensures cause { HasCause (B.faults keeper.old) (B.faults keeper.new) result }
 {
     let Ok(kept) = Octets::from_slice(alloc, request) else {
@@ -178,6 +182,9 @@ pub fn register<B: Keeper>(
     // Where the rows are told after the call, it was one delivery, with the rows before it as the ledger.
     ensures delivery { Told (B.rows keeper.old) (B.rows keeper.new) (λ before after. Serves before after
         (record { reference = reference.now; bytes = request.now; day = day }) (B.faults keeper.old, B.faults keeper.new) (outcome_of result)) }
+    // Whether the keeper tells its rows or not, the day that is given is today's, and any other answer is what a row of the
+    // reference says, or `Full`.
+    ensures answered { IfOk result (RegisterCause reference.now request.now day) }
     ensures cause { HasCause (B.faults keeper.old) (B.faults keeper.new) result }
 {
     match look(alloc, reference, request, keeper)? {
