@@ -49,7 +49,7 @@ pub record SoFar (rows rows' : Option (List Row)) (first last : ℕ) (old new : 
   pub answers : List Answer
   pub count : length answers ≡ length lines
   pub ended : AreEnded answers
-  pub answered : AreAnswers first (events lines) answers last
+  pub answered : AreAnswers (record { day = None; keeper = first }) (events lines) answers (record { day = day; keeper = last })
   pub history : Told rows rows' (λ before after. (t : State) × History (first_state before first) (events lines) answers t × IsAt day after last t)
   pub sent : Appends old new (journal lines answers)
 
@@ -58,7 +58,7 @@ nothing_yet rows first old day none = record {
   answers = [];
   count = refl;
   ended = tt;
-  answered = refl;
+  answered = (λ i. record { day = none i; keeper = first });
   history = told_same _ rows (λ before. (first_state before first, refl, record { day_is = sym none; rows_are = refl; keeper_is = refl }));
   sent = Appends-nil old;
 }
@@ -79,7 +79,7 @@ one_more rows rows' rows'' first mid last old middle new day day' lines all line
       answers = so.answers ++ step.0 ∷ [];
       count = omega (arith, length-append so.answers (step.0 ∷ []), length-append lines (line ∷ []), so.count);
       ended = ended_more so.answers step.0 so.ended step.2.0;
-      answered = subst (λ (es : List Event). AreAnswers first es (so.answers ++ step.0 ∷ []) last) (sym (events_more lines line)) (runs_more AnswersTo first (events lines) so.answers mid last line.event step.0 so.answered step.1.answered);
+      answered = subst (λ (es : List Event). AreAnswers (record { day = None; keeper = first }) es (so.answers ++ step.0 ∷ []) (record { day = day'; keeper = last })) (sym (events_more lines line)) (runs_more AnswersTo (record { day = None; keeper = first }) (events lines) so.answers (record { day = day; keeper = mid }) (record { day = day'; keeper = last }) line.event step.0 so.answered step.1.answered);
       history = history_more first mid last day day' lines line so.answers step.0 rows rows' rows'' so.history step.1.turn;
       sent = subst (Appends old new) (sym (journal_more lines line so.answers step.0 so.count)) (Appends-trans old middle new _ _ so.sent step.2.1);
     })
@@ -156,8 +156,9 @@ run_tells before after first last day lines answers t h at =
 
 -- ---- the ends of a run
 
-run_of : (rows rows' : Option (List Row)) (first last : ℕ) (day : Option ℕ) (lines : List EventLine) (answers : List Answer) → AreAnswers first (events lines) answers last → Told rows rows' (λ before after. (t : State) × History (first_state before first) (events lines) answers t × IsAt day after last t) → RunOf rows rows' first last lines answers
+run_of : (rows rows' : Option (List Row)) (first last : ℕ) (day : Option ℕ) (lines : List EventLine) (answers : List Answer) → AreAnswers (record { day = None; keeper = first }) (events lines) answers (record { day = day; keeper = last }) → Told rows rows' (λ before after. (t : State) × History (first_state before first) (events lines) answers t × IsAt day after last t) → RunOf rows rows' first last lines answers
 run_of rows rows' first last day lines answers answered history = record {
+  day = day;
   answered = answered;
   told = told_more _ _ rows rows' history (λ (before after : List Row) (r : Reached first last day (events lines) answers before after). run_tells before after first last day lines answers r.0 r.1 r.2);
 }
@@ -180,7 +181,7 @@ stopped_run rows rows' rows'' first mid last old middle new day day' all i done 
       count = so.count ∙ length-take-le i all (omega arith);
       ended = so.ended;
       run = run_of rows rows'' first last day' (take i all ++ line ∷ []) (so.answers ++ step.0 ∷ [])
-          (subst (λ (es : List Event). AreAnswers first es (so.answers ++ step.0 ∷ []) last) (sym (events_more (take i all) line)) (runs_more AnswersTo first (events (take i all)) so.answers mid last line.event step.0 so.answered step.1.answered))
+          (subst (λ (es : List Event). AreAnswers (record { day = None; keeper = first }) es (so.answers ++ step.0 ∷ []) (record { day = day'; keeper = last })) (sym (events_more (take i all) line)) (runs_more AnswersTo (record { day = None; keeper = first }) (events (take i all)) so.answers (record { day = day; keeper = mid }) (record { day = day'; keeper = last }) line.event step.0 so.answered step.1.answered))
           (history_more first mid last day day' (take i all) line so.answers step.0 rows rows' rows'' so.history step.1.turn);
       sent = sent_until stop old middle new (journal (take i all) so.answers) line.line step.0 so.sent step.2;
     })

@@ -15,13 +15,13 @@ use Rattle.issue_core.specs.declared.serving.IssueFault.{IssueFault}
 use Rattle.issue_core.specs.declared.serving.IssueFault.TheVariants.{KeeperFault, ProviderFault, NoKey, NoMemory as FaultNoMemory}
 use Rattle.issue_core.specs.Ledger.{Outcome, Issued, Kept, Refused, Faulted, NoMemory}
 use Rattle.issue_core.specs.Story.{Decides}
-use Rattle.issue_core.specs.Register.{Asked, Fault, register, unsigned, delivery_of, Serves, entries_of, rows_left, outcome_of}
+use Rattle.issue_core.specs.Register.{Asked, Fault, register, unsigned, delivery_of, Serves, entries_of, rows_left, outcome_of, RegisterCause}
 use Rattle.issue_core.proofs.RowLaws.{unheard, decides_unheard}
 use Rattle.eac_cli.specs.declared.event.Event.{Event}
 use Rattle.eac_cli.specs.declared.event.Event.TheVariants.{Day, Ask}
 use Rattle.eac_cli.specs.declared.event.EventLine.{EventLine}
 use Rattle.eac_cli.specs.State.{State}
-use Rattle.eac_cli.specs.Turn.{asked_on, Answer, Silent, Registered, Memory, told_as, AskTurn, Turn, IsCaused, AnswersTo, IsEnded}
+use Rattle.eac_cli.specs.Turn.{asked_on, Answer, Silent, Registered, Memory, told_as, AskTurn, Turn, Standing, IsCaused, AnswersTo, IsEnded}
 use Rattle.eac_cli.specs.Journal.{outcome_text, answer_text, numbered_line, line_text}
 use Rattle.eac_cli.specs.Steps.{IsAt, Steps, Said, Lined}
 
@@ -54,9 +54,9 @@ ask_turn reference bytes day before now outcome r r' later serves s at =
     } in
     (t, turn, record { day_is = at.day_is; rows_are = ap (λ (l : List Row). l ++ rows_left asked serves.left) at.rows_are ∙ sym serves.rows; keeper_is = refl })
 
-ask_steps : (reference bytes : List ℕ) (day : ℕ) (rows rows' : Option (List Row)) (before now : ℕ) (outcome : Outcome (List ℕ) Rule Fault) → Told rows rows' (λ r r'. Serves r r' (asked_on day reference bytes) (before, now) outcome) → before ≤ now → IsCaused before now outcome → Steps (Ask reference bytes) (told_as reference outcome) (Some day) (Some day) rows rows' before now
+ask_steps : (reference bytes : List ℕ) (day : ℕ) (rows rows' : Option (List Row)) (before now : ℕ) (outcome : Outcome (List ℕ) Rule Fault) → Told rows rows' (λ r r'. Serves r r' (asked_on day reference bytes) (before, now) outcome) → before ≤ now → IsCaused (record { day = Some day; keeper = before }) reference bytes now outcome → Steps (Ask reference bytes) (told_as reference outcome) (Some day) (Some day) rows rows' before now
 ask_steps reference bytes day rows rows' before now outcome serves later caused = record {
-  answered = (later, outcome, refl, caused);
+  answered = (refl, later, outcome, refl, caused);
   turn = told_more _ _ rows rows' serves (λ r r' one. ask_turn reference bytes day before now outcome r r' later one);
 }
 
@@ -88,19 +88,19 @@ pub memory_too : (event : Event) (reference bytes : List ℕ) (answer : Answer) 
 memory_too event reference bytes answer day day' rows rows' before now is s =
     let x : Steps (Ask reference bytes) answer day day' rows rows' before now = subst (λ (e : Event). Steps e answer day day' rows rows' before now) is s in
     let y : Steps (Ask reference bytes) Memory day day' rows rows' before now = record {
-      answered = (x.answered.0, NoMemory, refl, tt);
+      answered = (x.answered.0, x.answered.1, NoMemory, refl, tt);
       turn = told_more _ _ rows rows' x.turn (λ (r r' : List Row) (f : (s : State) → IsAt day r before s → (t : State) × Turn s (Ask reference bytes) answer t × IsAt day' r' now t) (s : State) (at : IsAt day r before s). let z = f s at in memory_turn reference bytes answer day' r' now s z.0 z.1 z.2);
     } in
     subst (λ (e : Event). Steps e Memory day day' rows rows' before now) (sym is) y
 
-caused : (before now : ℕ) (result : Result RegisterAnswer IssueFault) → (result ≡ Err KeeperFault → Rose before now) → IsCaused before now (outcome_of result)
-caused before now (Ok (AnswerIssued day)) h = tt
-caused before now (Ok (AnswerKept day)) h = tt
-caused before now (Ok (AnswerRefused rule)) h = tt
-caused before now (Err KeeperFault) h = h refl
-caused before now (Err ProviderFault) h = tt
-caused before now (Err (NoKey reference)) h = tt
-caused before now (Err FaultNoMemory) h = tt
+caused : (reference bytes : List ℕ) (day before now : ℕ) (result : Result RegisterAnswer IssueFault) → IfOk result (RegisterCause reference bytes (day_text day)) → (result ≡ Err KeeperFault → Rose before now) → IsCaused (record { day = Some day; keeper = before }) reference bytes now (outcome_of result)
+caused reference bytes day before now (Ok (AnswerIssued given)) a h = (day, refl, a)
+caused reference bytes day before now (Ok (AnswerKept given)) a h = a
+caused reference bytes day before now (Ok (AnswerRefused rule)) a h = a
+caused reference bytes day before now (Err KeeperFault) a h = h refl
+caused reference bytes day before now (Err ProviderFault) a h = tt
+caused reference bytes day before now (Err (NoKey key)) a h = tt
+caused reference bytes day before now (Err FaultNoMemory) a h = tt
 
 ended_text : (reference : List ℕ) (outcome : Outcome (List ℕ) Rule Fault) → IsEnded (told_as reference outcome) → answer_text (told_as reference outcome) ≡ outcome_text reference outcome
 ended_text reference (Issued day) h = refl
@@ -118,10 +118,10 @@ module _ (reference bytes : List ℕ) (day : ℕ) (rows rows' : Option (List Row
   not_said line = (Memory, ask_unheard reference bytes day rows rows' before now (outcome_of result) serves later, (refl, refl))
 
   -- the text of the answer was appended, or nothing was
-  pub was_said : {E : Type 0} (out : Result (Unit {0}) E) (old new told : List ℕ) → (result ≡ Err KeeperFault → Rose before now) → (told ≡ outcome_text reference (outcome_of result)) × IsEnded (told_as reference (outcome_of result)) → OnOk out (new ≡ old ++ told) → OnErr out (new ≡ old) → (answer : Answer) × Steps (Ask reference bytes) answer (Some day) (Some day) rows rows' before now × Said out answer old new
-  was_said (Ok u) old new told cause heard pushed kept =
-      (told_as reference (outcome_of result), ask_steps reference bytes day rows rows' before now (outcome_of result) serves later (caused before now result cause), (heard.1, pushed ∙ ap (λ (l : List ℕ). old ++ l) (heard.0 ∙ sym (ended_text reference (outcome_of result) heard.1))))
-  was_said (Err e) old new told cause heard pushed kept = (Memory, ask_unheard reference bytes day rows rows' before now (outcome_of result) serves later, (refl, kept))
+  pub was_said : {E : Type 0} (out : Result (Unit {0}) E) (old new told : List ℕ) → IfOk result (RegisterCause reference bytes text) → (result ≡ Err KeeperFault → Rose before now) → (told ≡ outcome_text reference (outcome_of result)) × IsEnded (told_as reference (outcome_of result)) → OnOk out (new ≡ old ++ told) → OnErr out (new ≡ old) → (answer : Answer) × Steps (Ask reference bytes) answer (Some day) (Some day) rows rows' before now × Said out answer old new
+  was_said (Ok u) old new told answered cause heard pushed kept =
+      (told_as reference (outcome_of result), ask_steps reference bytes day rows rows' before now (outcome_of result) serves later (caused reference bytes day before now result (subst (λ (d : List ℕ). IfOk result (RegisterCause reference bytes d)) is answered) cause), (heard.1, pushed ∙ ap (λ (l : List ℕ). old ++ l) (heard.0 ∙ sym (ended_text reference (outcome_of result) heard.1))))
+  was_said (Err e) old new told answered cause heard pushed kept = (Memory, ask_unheard reference bytes day rows rows' before now (outcome_of result) serves later, (refl, kept))
 
 -- ---- the line of the journal
 
@@ -137,14 +137,14 @@ not_silent reference (Refused rule) e = absurd (cc)
 not_silent reference (Faulted fault) e = absurd (cc)
 not_silent reference NoMemory e = absurd (cc)
 
-ask_not_silent : (reference bytes : List ℕ) (answer : Answer) (before now : ℕ) → AnswersTo before (Ask reference bytes) answer now → answer ≡ Silent → ⊥
-ask_not_silent reference bytes answer before now h e = not_silent reference h.1 (sym h.2 ∙ e)
+ask_not_silent : (reference bytes : List ℕ) (answer : Answer) (before now : Standing) → AnswersTo before (Ask reference bytes) answer now → answer ≡ Silent → ⊥
+ask_not_silent reference bytes answer before now h e = not_silent reference h.2 (sym h.3 ∙ e)
 
 -- the journal line of what a step said to an `ask`
 pub ask_lined : {F : Type 0} (line : EventLine) (reference bytes : List ℕ) (day day' : Option ℕ) (rows rows' : Option (List Row)) (before now : ℕ) (text : List ℕ) (out : Result (List ℕ) F) → line.event ≡ Ask reference bytes → (answer : Answer) × Steps line.event answer day day' rows rows' before now × (IsEnded answer × (text ≡ [] ++ answer_text answer)) → IfOk out (λ l. l ≡ numbered_line line.line text) → (answer : Answer) × Steps line.event answer day day' rows rows' before now × Lined line.line out answer
 ask_lined line reference bytes day day' rows rows' before now text (Ok l) is said lined =
-    let a : AnswersTo before (Ask reference bytes) said.0 now = subst (λ (e : Event). AnswersTo before e said.0 now) is said.1.answered in
-    (said.0, said.1, (said.2.0, lined ∙ ap (numbered_line line.line) said.2.1 ∙ numbered_is line.line said.0 said.2.0 (ask_not_silent reference bytes said.0 before now a)))
+    let a : AnswersTo (record { day = day; keeper = before }) (Ask reference bytes) said.0 (record { day = day'; keeper = now }) = subst (λ (e : Event). AnswersTo (record { day = day; keeper = before }) e said.0 (record { day = day'; keeper = now })) is said.1.answered in
+    (said.0, said.1, (said.2.0, lined ∙ ap (numbered_line line.line) said.2.1 ∙ numbered_is line.line said.0 said.2.0 (ask_not_silent reference bytes said.0 (record { day = day; keeper = before }) (record { day = day'; keeper = now }) a)))
 ask_lined line reference bytes day day' rows rows' before now text (Err e) is said lined = (Memory, memory_too line.event reference bytes said.0 day day' rows rows' before now is said.1, refl)
 
 -- a `day` was run, and nothing was appended

@@ -33,7 +33,7 @@ pub record IsAt (day : Option ℕ) (rows : List Row) (keeper : ℕ) (s : State) 
 -- The event was answered so. Where the rows are told afterwards, each state of the objects before leads by one turn to
 -- one of the objects after.
 pub record Steps (event : Event) (answer : Answer) (day day' : Option ℕ) (rows rows' : Option (List Row)) (before now : ℕ) : Type 0 where
-  pub answered : AnswersTo before event answer now
+  pub answered : AnswersTo (record { day = day; keeper = before }) event answer (record { day = day'; keeper = now })
   pub turn : Told rows rows' (λ r r'. (s : State) → IsAt day r before s → (t : State) × Turn s event answer t × IsAt day' r' now t)
 
 -- what a step appended to the text: the answer's, or nothing where memory is wanting

@@ -63,10 +63,11 @@ pub record RunTells (before after : List Row) (first last : ℕ) (lines : List E
   pub story : RegisterStory (entries_of before) end.register
   pub ledger : after ≡ before ++ rows_of_ledger (entries register end.register)
 
--- These lines were run in order, with these answers: what each answer is and the causes of faults, and where the rows
+-- These lines were run in order from no day on, with these answers: what each answer is and its cause, and where the rows
 -- are told afterwards the history.
 pub record RunOf (rows rows' : Option (List Row)) (first last : ℕ) (lines : List EventLine) (answers : List Answer) : Type 0 where
-  pub answered : AreAnswers first (events lines) answers last
+  pub day : Option ℕ
+  pub answered : AreAnswers (record { day = None; keeper = first }) (events lines) answers (record { day = day; keeper = last })
   pub told : Told rows rows' (λ before after. RunTells before after first last lines answers)
 
 -- ---- by status

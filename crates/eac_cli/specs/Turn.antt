@@ -1,12 +1,14 @@
 -- What one event does (this project's own): from a state, with an answer, to a state.
-use Rattle.std.specs.Prelude.{◌≡◌, ℕ, ◌≤◌, List, [], ◌∷◌, ◌++◌, Option, Some}
+use Rattle.std.specs.Prelude.{◌≡◌, ◌⊎◌, ℕ, ◌≤◌, List, [], ◌∷◌, ◌++◌, Option, Some}
 use Rattle.cv_dates.specs.Calendar.{day_text}
 use Rattle.eac_base.specs.Causes.{Rose}
 use Rattle.eac_base.specs.Runs.{Runs}
 use Rattle.issue_core.specs.declared.rule.Rule.{Rule}
+use Rattle.issue_core.specs.declared.rule.Rule.TheVariants.{Full}
+use Rattle.issue_core.specs.declared.serving.RegisterAnswer.TheVariants.{Kept as AnswerKept, Refused as AnswerRefused}
 use Rattle.issue_core.specs.Ledger.{Outcome, Issued, Kept, Refused, Faulted, NoMemory}
 use Rattle.issue_core.specs.Story.{Decides}
-use Rattle.issue_core.specs.Register.{Asked, Fault, register, unsigned, delivery_of, entries_of, rows_left}
+use Rattle.issue_core.specs.Register.{Asked, Fault, register, unsigned, delivery_of, entries_of, rows_left, IsAgain}
 use Rattle.eac_cli.specs.declared.event.Event.{Event}
 use Rattle.eac_cli.specs.declared.event.Event.TheVariants.{Day, Ask}
 use Rattle.eac_cli.specs.State.{State}
@@ -56,22 +58,28 @@ History = Runs Turn
 
 -- ---- what is known of an answer also where no rows are told
 
--- a fault of the keeper came only where its count rose
-abbrev pub IsCaused : ℕ → ℕ → Outcome (List ℕ) Rule Fault → Type 0
-IsCaused before now (Issued day) = Unit {0}
-IsCaused before now (Kept day) = Unit {0}
-IsCaused before now (Refused rule) = Unit {0}
-IsCaused before now (Faulted fault) = Rose before now
-IsCaused before now NoMemory = Unit {0}
+-- what stands between two events: the day in force, and how often the keeper has failed
+pub record Standing : Type 0 where
+  pub day : Option ℕ
+  pub keeper : ℕ
 
--- The answer is one to this event, and a fault in it has its cause between the keeper's counts before and after.
-abbrev pub AnswersTo : ℕ → Event → Answer → ℕ → Type 0
-AnswersTo before (Day day) answer now = (answer ≡ Silent) × (now ≡ before)
-AnswersTo before (Ask reference bytes) answer now =
-    (before ≤ now) × (outcome : Outcome (List ℕ) Rule Fault) × (answer ≡ told_as reference outcome) × IsCaused before now outcome
+-- Why an outcome came: the day that is given is the one in force, what is kept or used is so by a row of that reference, a
+-- full table is the keeper's word, and a fault of the keeper came only where its count rose.
+abbrev pub IsCaused : Standing → (reference bytes : List ℕ) → ℕ → Outcome (List ℕ) Rule Fault → Type 0
+IsCaused s reference bytes now (Issued given) = (day : ℕ) × (s.day ≡ Some day) × (given ≡ day_text day)
+IsCaused s reference bytes now (Kept given) = IsAgain reference bytes (AnswerKept given)
+IsCaused s reference bytes now (Refused rule) = IsAgain reference bytes (AnswerRefused rule) ⊎ (rule ≡ Full)
+IsCaused s reference bytes now (Faulted fault) = Rose s.keeper now
+IsCaused s reference bytes now NoMemory = Unit {0}
 
--- the answers to the events in their order, each with its cause between the counts that it stands at
-abbrev pub AreAnswers : ℕ → List Event → List Answer → ℕ → Type 0
+-- The answer is one to this event, and it has its cause in what stood before and after.
+abbrev pub AnswersTo : Standing → Event → Answer → Standing → Type 0
+AnswersTo s (Day day) answer s' = (answer ≡ Silent) × (s' ≡ record { day = Some day; keeper = s.keeper })
+AnswersTo s (Ask reference bytes) answer s' =
+    (s'.day ≡ s.day) × (s.keeper ≤ s'.keeper) × (outcome : Outcome (List ℕ) Rule Fault) × (answer ≡ told_as reference outcome) × IsCaused s reference bytes s'.keeper outcome
+
+-- the answers to the events in their order, each with its cause in what stands about it
+abbrev pub AreAnswers : Standing → List Event → List Answer → Standing → Type 0
 AreAnswers = Runs AnswersTo
 
 -- an answer that is not want of memory
