@@ -1,5 +1,4 @@
 // Bytes written as hexadecimal digits.
-ghost use Rattle.std.specs.Prelude.{◌≡◌};
 ghost use Rattle.eac_base.specs.Answers.{Answers, some_or};
 ghost use Rattle.eac_base.specs.Text as text;
 ghost use Rattle.eac_cli.specs.LineGrammar.{rule_of};

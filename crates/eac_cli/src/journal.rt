@@ -1,5 +1,5 @@
 // The texts of the journal.
-ghost use Rattle.std.specs.Prelude.{◌≡◌, ℕ, List, [], ◌∷◌, ◌++◌, IfOk, IfSome, OnOk};
+ghost use Rattle.std.specs.Prelude.{◌≡◌, ◌∷◌, ◌++◌, IfOk, IfSome, OnOk};
 ghost use Rattle.issue_core.specs.Register.{outcome_of};
 ghost use Rattle.eac_cli.specs.Journal.{outcome_text, numbered_line};
 ghost use Rattle.eac_cli.specs.Turn.{told_as, IsEnded};

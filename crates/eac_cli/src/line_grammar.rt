@@ -1,7 +1,7 @@
 // One line of a script by itself.
-ghost use Rattle.std.specs.Prelude.{◌≡◌, ℕ, List, [], ◌∷◌, ◌==◌, ◌&&◌, length, Some};
+ghost use Rattle.std.specs.Prelude.{Some};
 ghost use Rattle.std.specs.Option.{option_copied};
-ghost use Rattle.eac_base.specs.Answers.{Answers, some_or};
+ghost use Rattle.eac_base.specs.Answers.{Answers};
 ghost use Rattle.policy_limits.specs.Lines.{pieces_left};
 ghost use Rattle.eac_cli.specs.LineGrammar.{rule_of, day_of, ask_of, ask_with, day_said, ask_said, event_of};
 

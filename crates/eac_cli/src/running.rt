@@ -1,9 +1,8 @@
 // The loop over the lines of a script.
-ghost use Rattle.std.specs.Prelude.{◌≡◌, ◌≢◌, ℕ, ◌<◌, ◌≤◌, List, [], ◌∷◌, length, None, Some, Err, IfSome, OnOk, OnErr};
+ghost use Rattle.std.specs.Prelude.{◌≡◌, ◌<◌, ◌≤◌, None, Some, Err, IfSome};
 ghost use Rattle.eac_base.specs.Causes.{Rose};
 ghost use Rattle.eac_cli.specs.Script.{later_day};
 ghost use Rattle.eac_cli.specs.Turn.{Answer};
-ghost use Rattle.eac_cli.specs.Journal.{line_text};
 ghost use Rattle.eac_cli.specs.Steps.{MayRun, MayRunAll, Steps, Lined, Sent};
 ghost use Rattle.eac_cli.specs.Top.{Whole, Stopped};
 

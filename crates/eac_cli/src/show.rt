@@ -1,5 +1,5 @@
 // What `show` prints: a certificate's fields, or why the input is none.
-ghost use Rattle.std.specs.Prelude.{◌≡◌, ℕ, List, [], ◌∷◌, ◌++◌, length, codes, IfOk, OnOk, option_map};
+ghost use Rattle.std.specs.Prelude.{◌≡◌, ◌++◌, length, codes, IfOk, OnOk, option_map};
 ghost use Rattle.std.specs.Fmt.{decimal};
 ghost use Rattle.cv_dates.specs.Calendar.{day_text};
 ghost use Rattle.cvc_grammar.specs.Views.{seen_cert};

@@ -2,9 +2,7 @@
 //
 // The tool is called at one place, `call_over`, which gives plain values. Owned values are let go by a call of `drop`:
 // at the end of a scope, and at each `?`, every part of them would be proved apart.
-ghost use Rattle.std.specs.Prelude.{◌≡◌, ◌≤◌, ◌<◌, ℕ, length, IfOk, Some};
-ghost use Rattle.std.specs.Io.{WritesAtMost};
-ghost use Rattle.std.specs.Io.KnownBytes.{WriteAppends};
+ghost use Rattle.std.specs.Prelude.{◌≤◌, ◌<◌, Some};
 
 use crate::tool::{Report, Status, run_tool};
 use eac_base::{FailPlan, Failed, MemorySink, MemorySource, Octets, Sink, Source, Words};

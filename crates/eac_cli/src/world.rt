@@ -1,5 +1,5 @@
 // The world of a run, and one event in it.
-ghost use Rattle.std.specs.Prelude.{◌≡◌, ℕ, ◌≤◌, List, Some, length};
+ghost use Rattle.std.specs.Prelude.{◌≡◌, ◌≤◌, Some, length};
 ghost use Rattle.eac_cli.specs.Script.{later_day};
 ghost use Rattle.eac_cli.specs.Turn.{Answer};
 ghost use Rattle.eac_cli.specs.Steps.{MayRun, Steps, Said};

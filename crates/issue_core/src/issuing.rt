@@ -1,5 +1,5 @@
 // One request at an issuing desk.
-ghost use Rattle.std.specs.Prelude.{◌≡◌, ◌∷◌, [], Some, None, Ok, false, IfOk, IfSome};
+ghost use Rattle.std.specs.Prelude.{◌≡◌, [], Some, None, Ok, IfOk};
 ghost use Rattle.eac_base.specs.Telling.{Told};
 ghost use Rattle.keeper.specs.Rows.{IsStorable};
 ghost use Rattle.keeper.specs.declared.rows.Part.TheVariants as part;

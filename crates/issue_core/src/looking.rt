@@ -1,11 +1,10 @@
 // What the rows say of a request: each look at the keeper by itself.
-ghost use Rattle.std.specs.Prelude.{◌≡◌, None, IfOk, IfSome, not, nat_lt, count_by, length};
-ghost use Rattle.holder_reference.specs.Reference.{holder_part};
+ghost use Rattle.std.specs.Prelude.{◌≡◌, None, IfOk, IfSome, not, nat_lt, length};
 ghost use Rattle.eac_base.specs.Telling.{Told};
 ghost use Rattle.keeper.specs.Rows.{row_at, rows_of, holder_rows};
 ghost use Rattle.keeper.specs.declared.rows.Table.TheVariants as table;
 ghost use Rattle.keeper.specs.Keeping.{IsAsked};
-ghost use Rattle.issue_core.specs.Looks.{KeeperCaused, signing_in, vouching_in, outer_in, until_in, is_live_row, HolderSeen, CountsSeen, IsSeen};
+ghost use Rattle.issue_core.specs.Looks.{KeeperCaused, signing_in, vouching_in, outer_in, until_in, HolderSeen, CountsSeen, IsSeen};
 ghost use Rattle.issue_core.specs.AnswerCauses.{NewestSigns, SignsAs, HeldAs, VouchesAs, OuterVouchesAs, IsSeenAsked};
 
 use crate::IssueFault;

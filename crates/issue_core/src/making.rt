@@ -1,10 +1,9 @@
 // The making of the certificate that is due.
-ghost use Rattle.std.specs.Prelude.{◌≡◌, ◌≤◌, length, true, ℕ, IfOk, Ok, IsTrue};
+ghost use Rattle.std.specs.Prelude.{◌≡◌, IfOk, Ok, IsTrue};
 ghost use Rattle.holder_reference.specs.Reference.{is_reference};
 ghost use Rattle.signature_provider.specs.Provider.{public_key};
-ghost use Rattle.cvc_grammar.specs.Request.{IsRequest, IsLegalRequest};
+ghost use Rattle.cvc_grammar.specs.Request.{IsLegalRequest};
 ghost use Rattle.cvc_grammar.specs.Certificate.{IsLegalBody, IsLegalCert, IsCert};
-ghost use Rattle.issue_core.specs.Asked.{cert_message};
 ghost use Rattle.issue_core.specs.Due.{bare_key, due_body};
 ghost use Rattle.issue_core.specs.IssueRows.{settled_of};
 ghost use Rattle.issue_core.specs.Issues.{MakeCaused, StaysTrue, IsMade, IsSigned};

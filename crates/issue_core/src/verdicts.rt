@@ -1,5 +1,5 @@
 // The verdicts of the provider on a request's signatures.
-ghost use Rattle.std.specs.Prelude.{◌≡◌, ◌++◌, Some, IfOk};
+ghost use Rattle.std.specs.Prelude.{◌≡◌, Some, IfOk};
 ghost use Rattle.tlv_core.specs.Object.{object};
 ghost use Rattle.cvc_grammar.specs.Request.{IsLegalRequest};
 ghost use Rattle.issue_core.specs.SeenRules.{inner_says, outer_says, outer_rule, verdict_rule};
