@@ -16,6 +16,9 @@ is_algorithm a = is_within 1 2 a.arc && nat_lt a.last 128
 abbrev pub is_elliptic : Algorithm → Bool
 is_elliptic a = a.arc == 2
 
+abbrev pub same_algorithm : Algorithm → Algorithm → Bool
+same_algorithm a b = (a.arc == b.arc) && (a.last == b.last)
+
 -- The prime, the two coefficients, the base point and its order.
 abbrev pub domain_tags : List ℕ
 domain_tags = 0x81 ∷ 0x82 ∷ 0x83 ∷ 0x84 ∷ 0x85 ∷ []

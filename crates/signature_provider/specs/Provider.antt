@@ -5,7 +5,7 @@ use Rattle.std.specs.declared.option.Option.{Option}
 use Rattle.std.specs.declared.result.Result.{Result}
 use Rattle.eac_base.specs.Causes.{Rose}
 use Rattle.eac_base.specs.Bytes.{is_within}
-use Rattle.signature_provider.specs.Key.{is_key, key_fits}
+use Rattle.signature_provider.specs.Key.{is_key, key_fits, same_algorithm}
 use Rattle.signature_provider.specs.declared.key.Algorithm.{Algorithm}
 use Rattle.signature_provider.specs.declared.key.Key.{Key}
 use Rattle.signature_provider.specs.declared.key.KeyForm.{KeyForm}
@@ -28,8 +28,7 @@ abbrev pub viewed_key : KeyView → PublicKey
 viewed_key k = record { algorithm = k.algorithm; domain = k.domain.now; point = k.point.now }
 
 abbrev pub same_key : PublicKey → PublicKey → Bool
-same_key a b = (a.algorithm.arc == b.algorithm.arc) && (a.algorithm.last == b.algorithm.last)
-    && bytes_eq a.domain b.domain && bytes_eq a.point b.point
+same_key a b = same_algorithm a.algorithm b.algorithm && bytes_eq a.domain b.domain && bytes_eq a.point b.point
 
 -- ---- what a provider means
 
@@ -80,10 +79,11 @@ pub record Signs (says : Says) (was_signed signed : Signed) (key : PublicKey) (m
 
 -- ---- when a call is refused
 
--- The count of faults hasn't fallen, and `Failed` came only where it rose.
+-- The count of faults hasn't fallen, `Failed` came only where it rose, and any other answer leaves it.
 pub record SignCause {T : Type 0} (before now : ℕ) (result : Result T SignRefusal) : Type 0 where
   pub later : before ≤ now
   pub failed : result ≡ Err Failed → Rose before now
+  pub quiet : result ≢ Err Failed → now ≡ before
 
 -- `NoKey` comes where the key isn't held, and there nothing is signed. A fault and want of memory may come before.
 abbrev pub HeldWhere : {T : Type 0} → Bool → Result T SignRefusal → Type 0
@@ -91,6 +91,10 @@ HeldWhere held (Ok x) = held ≡ true
 HeldWhere held (Err NoKey) = held ≡ false
 HeldWhere held (Err Failed) = Unit {0}
 HeldWhere held (Err NoMemory) = Unit {0}
+
+-- A key that isn't held is found so before memory is asked for.
+abbrev pub UnheldFirst : {T : Type 0} → Bool → Result T SignRefusal → Type 0
+UnheldFirst held result = held ≡ false → result ≢ Err NoMemory
 
 -- The call failed, by its answer.
 abbrev pub has_failed : {T : Type 0} → Result T SignRefusal → Bool

@@ -3,7 +3,7 @@ ghost use Rattle.std.specs.Prelude.{◌≡◌, ◌≢◌, ◌+◌, [], ◌∷◌
 ghost use Rattle.eac_base.specs.Causes.{HasCause};
 ghost use Rattle.signature_provider.specs.declared.provider.SignRefusal.TheVariants.{NoKey};
 ghost use Rattle.signature_provider.specs.Key.{is_form};
-ghost use Rattle.signature_provider.specs.Provider.{public_key, viewed_key, SaysMore, HoldsMore, KeepsHonest, MakesKey, Signs, SignCause, HeldWhere};
+ghost use Rattle.signature_provider.specs.Provider.{public_key, viewed_key, SaysMore, HoldsMore, KeepsHonest, MakesKey, Signs, SignCause, HeldWhere, UnheldFirst};
 ghost use Rattle.signature_provider.specs.Instruments.{numbered_point, is_among, digest_signature, digest_says, untold};
 ghost use Rattle.signature_provider.specs.Instruments as words;
 
@@ -110,6 +110,7 @@ impl SignatureProvider for DigestProvider {
         ensures honest { KeepsHonest (digest_says self.old.secret) untold (digest_says self.new.secret) untold }
         ensures cause { SignCause 0 0 result }
         ensures key { HeldWhere (is_among self.old.keys (public_key key.now)) result }
+        ensures unheld { UnheldFirst (is_among self.old.keys (public_key key.now)) result }
         // The signature is the digest, and nothing changes.
         ensures digest { IfOk result (λ signature. signature ≡ digest_signature self.old.secret (public_key key.now) message.now) }
         ensures unchanged { self.new ≡ self.old }

@@ -1,4 +1,7 @@
 // What names a key, and what a new key is made like.
+ghost use Rattle.std.specs.Prelude.{◌≡◌};
+ghost use Rattle.signature_provider.specs.Key as words;
+
 use eac_base::Octets;
 
 /// The last two numbers of an identifier below the arc of terminal authentication, 0.4.0.127.0.7.2.2.2
@@ -9,6 +12,15 @@ pub struct Algorithm {
     pub arc: u8,
     /// The hash and the padding, 0 to 127: 3 below ECDSA is SHA-256.
     pub last: u8,
+}
+
+impl Algorithm {
+    /// Whether its keys are elliptic, so that they have a domain.
+    pub fn is_elliptic(&self) -> bool
+        ensures { result ≡ words.is_elliptic self.now }
+    {
+        self.arc == 2
+    }
 }
 
 /// A public key. Two keys are the same where algorithm, domain and point are the same: the cofactor is carried along.

@@ -42,8 +42,7 @@ impl KeptKey {
     pub(crate) fn is(&self, key: KeyView) -> bool
         ensures { result ≡ same_key self.now (viewed_key key.entry) }
     {
-        self.algorithm.arc == key.algorithm.arc
-            && self.algorithm.last == key.algorithm.last
+        self.algorithm == key.algorithm
             && is_same(self.domain.as_slice(), key.domain)
             && is_same(self.point.as_slice(), key.point)
     }
@@ -72,7 +71,7 @@ fn point_of(alloc: Global, algorithm: Algorithm, number: u64) -> Result<Octets, 
     ensures { IfOk result (λ point. point ≡ numbered_point algorithm number) }
 {
     let digits = number.to_be_bytes();
-    if algorithm.arc == 2 {
+    if algorithm.is_elliptic() {
         return Octets::from_slice(alloc, &digits);
     }
     let mut point = Octets::from_slice(alloc, &[0x81, 8])?;

@@ -9,6 +9,8 @@ ghost use Rattle.signature_provider.specs.Provider.{PublicKey, public_key, viewe
 use crate::{Key, KeyForm, KeyView};
 use eac_base::{Failed, NoMemory, Octets};
 use std::alloc::Global;
+use std::error::Error;
+use std::fmt;
 
 /// Why no key was made, or nothing was signed.
 #[derive(Clone, Copy, Debug, PartialEq, Eq)]
@@ -20,6 +22,18 @@ pub enum SignRefusal {
     /// Memory is wanting.
     NoMemory,
 }
+
+impl fmt::Display for SignRefusal {
+    fn fmt<W: fmt::Write>(&self, f: &mut fmt::Formatter<W>) -> fmt::Result {
+        f.write_str(match self {
+            SignRefusal::NoKey => "the provider doesn't hold this key",
+            SignRefusal::Failed => "the provider of signatures failed",
+            SignRefusal::NoMemory => "out of memory",
+        })
+    }
+}
+
+impl Error for SignRefusal {}
 
 impl From<NoMemory> for SignRefusal {
     ghost use Rattle.signature_provider.specs.declared.provider.SignRefusal.{SignRefusal};
@@ -52,7 +66,7 @@ pub trait SignatureProvider {
     /// # Errors
     ///
     /// `Failed` only where the count of faults rose in this call or stands at its last value, and `NoMemory`. `NoKey`
-    /// never comes.
+    /// never comes. Any other answer than `Failed` leaves the count.
     fn new_key(&mut self, alloc: Global, like: &KeyForm) -> Result<Key, SignRefusal>
         requires { IsTrue (is_form like.now) }
         ensures made { IfOk result (MakesKey (holds self.old) (holds self.new) like.now) }
@@ -68,7 +82,8 @@ pub trait SignatureProvider {
     /// # Errors
     ///
     /// `Failed` only where the count of faults rose in this call or stands at its last value. Else `NoKey` exactly where
-    /// the key isn't held, and `NoMemory`. What was signed stays as it was then.
+    /// the key isn't held, unless memory was wanting first, and `NoMemory`. What was signed stays as it was then. Any
+    /// other answer than `Failed` leaves the count.
     fn sign(&mut self, alloc: Global, key: &Key, message: &[u8]) -> Result<Octets, SignRefusal>
         ensures made { IfOk result (Signs (says self.new) (signed self.old) (signed self.new) (public_key key.now) message.now) }
         ensures says { SaysMore (says self.old) (says self.new) }
@@ -83,7 +98,7 @@ pub trait SignatureProvider {
     ///
     /// # Errors
     ///
-    /// [`Failed`] only where the count of faults rose in this call or stands at its last value.
+    /// [`Failed`] only where the count of faults rose in this call or stands at its last value. An Ok leaves the count.
     fn verify(
         &mut self,
         key: KeyView,

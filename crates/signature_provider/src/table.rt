@@ -5,7 +5,7 @@ ghost use Rattle.eac_base.specs.Causes.{HasCause};
 ghost use Rattle.eac_base.specs.Planned.{IsPlanned};
 ghost use Rattle.signature_provider.specs.declared.provider.SignRefusal.TheVariants.{NoKey};
 ghost use Rattle.signature_provider.specs.Key.{is_form};
-ghost use Rattle.signature_provider.specs.Provider.{public_key, viewed_key, SaysMore, HoldsMore, KeepsHonest, MakesKey, Signs, SignCause, HeldWhere, has_failed};
+ghost use Rattle.signature_provider.specs.Provider.{public_key, viewed_key, SaysMore, HoldsMore, KeepsHonest, MakesKey, Signs, SignCause, HeldWhere, UnheldFirst, has_failed};
 ghost use Rattle.signature_provider.specs.Instruments.{numbered_point, is_among, table_signature, is_row_of, table_says, IsCounted};
 
 use crate::made_keys::{KeptKey, MadeKeys};
@@ -167,6 +167,7 @@ impl SignatureProvider for TableProvider {
         ensures honest { KeepsHonest (table_says self.old.rows) (Some self.old.rows) (table_says self.new.rows) (Some self.new.rows) }
         ensures cause { SignCause self.old.faults self.new.faults result }
         ensures key { HeldWhere (is_among self.old.keys (public_key key.now)) result }
+        ensures unheld { UnheldFirst (is_among self.old.keys (public_key key.now)) result }
         // It fails exactly where its plan says.
         ensures planned { IsTrue (has_failed result) ↔ IsPlanned self.old.plan self.old.calls }
         ensures counted { IsCounted self.old self.new (has_failed result) }
