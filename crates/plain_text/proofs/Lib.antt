@@ -1,0 +1,4 @@
+pub mod Bytes
+pub mod Cuts
+pub mod Hexes
+pub mod Numbers
