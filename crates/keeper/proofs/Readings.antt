@@ -8,8 +8,8 @@ use Rattle.std.proofs.lemmas.List.Elements.{filter_passes, All-filter}
 use Rattle.keeper.specs.declared.rows.Row.{Row}
 use Rattle.keeper.specs.declared.rows.Table.{Table}
 use Rattle.std.specs.declared.result.Result.{Result}
-use Rattle.keeper.specs.declared.traits.KeepRefusal.{KeepRefusal}
-use Rattle.keeper.specs.declared.traits.KeepRefusal.TheVariants.{NoMemory}
+use Rattle.keeper.specs.declared.keeping.KeepRefusal.{KeepRefusal}
+use Rattle.keeper.specs.declared.keeping.KeepRefusal.TheVariants.{NoMemory}
 use Rattle.keeper.specs.Rows.{is_of, is_of_holder, rows_of, holder_rows, most_rows, IsStorable}
 use Rattle.keeper.specs.Keeping.{ReadingRefused, Gives, IsGivenAs, IsDeskRow, IsHolderRow}
 

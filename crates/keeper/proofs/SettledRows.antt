@@ -16,8 +16,8 @@ use Rattle.keeper.specs.declared.rows.Part.{Part}
 use Rattle.keeper.specs.declared.rows.Part.TheVariants as part
 use Rattle.keeper.specs.declared.rows.Table.{Table}
 use Rattle.keeper.specs.declared.rows.Table.TheVariants.{Own}
-use Rattle.keeper.specs.declared.traits.KeepRefusal.{KeepRefusal}
-use Rattle.keeper.specs.declared.traits.KeepRefusal.TheVariants.{Failed, Full, Twice, Absent, NoMemory}
+use Rattle.keeper.specs.declared.keeping.KeepRefusal.{KeepRefusal}
+use Rattle.keeper.specs.declared.keeping.KeepRefusal.TheVariants.{Failed, Full, Twice, Absent, NoMemory}
 use Rattle.keeper.specs.Rows.{table_of, kind_of, same_table, is_of, has_key, row_at, kept_row, settled_part, with_settled, settled_rows, are_unique, UniqueKeys, IsStorableSettled, IsStorablePart, IsStorable}
 use Rattle.keeper.specs.Keeping.{MaySettle, Settles}
 use Rattle.keeper.proofs.UniqueRows.{and_parts, here_none, unique_parts}

@@ -1,5 +1,5 @@
 -- What the calls of a keeper do to the list of its rows (this project's own).
-use Rattle.std.specs.Prelude.{◌≡◌, ◌⊎◌, ℕ, ◌<◌, ◌≤◌, true, false, List, [], ◌∷◌, ◌++◌, length, Some, None, Ok, Err, IfSome}
+use Rattle.std.specs.Prelude.{◌≡◌, ◌≢◌, ◌⊎◌, ℕ, ◌<◌, ◌≤◌, true, false, List, [], ◌∷◌, ◌++◌, length, Some, None, Ok, Err, IfSome}
 use Rattle.std.specs.List.{All}
 use Rattle.std.specs.declared.option.Option.{Option}
 use Rattle.std.specs.declared.result.Result.{Result}
@@ -8,8 +8,8 @@ use Rattle.keeper.specs.declared.rows.Row.{Row}
 use Rattle.keeper.specs.declared.rows.Settled.{Settled}
 use Rattle.keeper.specs.declared.rows.Table.{Table}
 use Rattle.keeper.specs.declared.rows.Table.TheVariants.{Own}
-use Rattle.keeper.specs.declared.traits.KeepRefusal.{KeepRefusal}
-use Rattle.keeper.specs.declared.traits.KeepRefusal.TheVariants.{Failed, Full, Twice, Absent, NoMemory}
+use Rattle.keeper.specs.declared.keeping.KeepRefusal.{KeepRefusal}
+use Rattle.keeper.specs.declared.keeping.KeepRefusal.TheVariants.{Failed, Full, Twice, Absent, NoMemory}
 use Rattle.keeper.specs.Rows.{table_of, is_of, has_key, is_of_holder, row_at, rows_of, holder_rows, kept_row, rows_beside, is_settled, settled_rows, most_rows, IsStorable}
 
 -- ---- adding
@@ -125,7 +125,8 @@ CountAsked result = IsGivenAs (λ count. Unit {0}) result
 
 -- ---- faults
 
--- the count of faults has not fallen, and `Failed` came only where it rose
+-- the count of faults has not fallen, `Failed` came only where it rose, and any other answer leaves it
 pub record FaultRose {T : Type 0} (before now : ℕ) (result : Result T KeepRefusal) : Type 0 where
   pub later : before ≤ now
   pub failed : result ≡ Err Failed → Rose before now
+  pub quiet : result ≢ Err Failed → now ≡ before

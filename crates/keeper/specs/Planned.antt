@@ -1,5 +1,5 @@
 -- A keeper in memory, whose calls fail by a plan of call numbers, counted from 1 (this project's own).
-use Rattle.std.specs.Prelude.{◌≡◌, ◌≢◌, ◌⊎◌, ℕ, ◌+◌, ◌-◌, ◌^◌, List, [], ◌∷◌, ◌++◌, Err, Some, None, option_map, nat_eq, nat_lt, if◌then◌else◌}
+use Rattle.std.specs.Prelude.{◌≡◌, ◌≢◌, ◌⊎◌, ℕ, ◌+◌, ◌-◌, ◌^◌, List, [], ◌∷◌, ◌++◌, Ok, Err, Some, None, option_map, nat_eq, nat_lt, if◌then◌else◌}
 use Rattle.std.specs.List.{find}
 use Rattle.std.specs.declared.option.Option.{Option}
 use Rattle.std.specs.declared.result.Result.{Result}
@@ -8,8 +8,8 @@ use Rattle.keeper.specs.declared.rows.Row.{Row}
 use Rattle.keeper.specs.declared.rows.Settled.{Settled}
 use Rattle.keeper.specs.declared.plan.Moment.{Moment}
 use Rattle.keeper.specs.declared.plan.Moment.TheVariants.{Before, After}
-use Rattle.keeper.specs.declared.traits.KeepRefusal.{KeepRefusal}
-use Rattle.keeper.specs.declared.traits.KeepRefusal.TheVariants.{Failed, NoMemory}
+use Rattle.keeper.specs.declared.keeping.KeepRefusal.{KeepRefusal}
+use Rattle.keeper.specs.declared.keeping.KeepRefusal.TheVariants.{Failed, Full, Twice, Absent, NoMemory}
 use Rattle.keeper.specs.Rows.{settled_rows, UniqueKeys}
 use Rattle.keeper.specs.Keeping.{MayAdd, MaySettle}
 
@@ -31,16 +31,20 @@ moment_at plan call = option_map (λ (pair : ℕ × Moment). pair.1) (find (λ (
 abbrev pub next_moment : List (ℕ × Moment) → ℕ → Option Moment
 next_moment plan calls = if nat_lt calls (2 ^ 64 - 1) then moment_at plan (calls + 1) else None
 
--- the count of faults after a call that fails at this moment, or doesn't fail
-abbrev pub faults_after : Option Moment → ℕ → ℕ
-faults_after None faults = faults
-faults_after (Some moment) faults = next_count faults
+-- the count of faults after a call with this answer
+abbrev pub faults_after : {T : Type 0} → Result T KeepRefusal → ℕ → ℕ
+faults_after (Ok answer) faults = faults
+faults_after (Err Failed) faults = next_count faults
+faults_after (Err Full) faults = faults
+faults_after (Err (Twice kept)) faults = faults
+faults_after (Err Absent) faults = faults
+faults_after (Err NoMemory) faults = faults
 
--- the call was counted, and its failing where it fails; the plan stays
-pub record IsCounted (old new : KeeperValue) : Type 0 where
+-- the call was counted, and a fault exactly where it answered `Failed`; the plan stays
+pub record IsCounted {T : Type 0} (old new : KeeperValue) (result : Result T KeepRefusal) : Type 0 where
   pub plan : new.plan ≡ old.plan
   pub calls : new.calls ≡ next_count old.calls
-  pub faults : new.faults ≡ faults_after (next_moment old.plan old.calls) old.faults
+  pub faults : new.faults ≡ faults_after result old.faults
 
 -- ---- what a failing call does
 

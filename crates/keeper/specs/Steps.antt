@@ -5,8 +5,8 @@ use Rattle.std.specs.declared.result.Result.{Result}
 use Rattle.keeper.specs.declared.rows.Row.{Row}
 use Rattle.keeper.specs.declared.rows.Table.{Table}
 use Rattle.keeper.specs.declared.rows.Table.TheVariants.{Own}
-use Rattle.keeper.specs.declared.traits.KeepRefusal.{KeepRefusal}
-use Rattle.keeper.specs.declared.traits.KeepRefusal.TheVariants.{Failed, Full, Twice, Absent, NoMemory}
+use Rattle.keeper.specs.declared.keeping.KeepRefusal.{KeepRefusal}
+use Rattle.keeper.specs.declared.keeping.KeepRefusal.TheVariants.{Failed, Full, Twice, Absent, NoMemory}
 use Rattle.keeper.specs.Rows.{is_of, is_of_holder, row_at, is_settled}
 use Rattle.keeper.specs.Keeping.{MaySettle}
 

@@ -1,7 +1,7 @@
 // What changes a plain list of rows.
 ghost use Rattle.std.specs.Prelude.{◌≡◌, ◌≢◌, ◌⊎◌, Some, Err, length, nat_le};
 ghost use Rattle.std.specs.List.{All};
-ghost use Rattle.keeper.specs.declared.traits.KeepRefusal.TheVariants.{Failed, Twice, NoMemory as RefusedNoMemory};
+ghost use Rattle.keeper.specs.declared.keeping.KeepRefusal.TheVariants.{Failed, Twice, NoMemory as RefusedNoMemory};
 ghost use Rattle.keeper.specs.declared.plan.Moment.TheVariants.{After as AfterChange};
 ghost use Rattle.keeper.specs.Rows.{rows_of, most_rows, settled_rows, UniqueKeys, IsStorable, IsStorableSettled};
 ghost use Rattle.keeper.specs.Keeping.{Adds, AddAsked, Settles, SettleAsked};

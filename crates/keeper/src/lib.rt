@@ -7,10 +7,10 @@
 //! [`Keeper`] is the trait of whatever stands behind: a call appends a row, gives an own row its certificate, or reads by
 //! key, by desk or by holder. What it says of rows it says where the keeper tells them after the call, so that a store may
 //! stop telling at any call. A call answers `Failed` only where the keeper's count of faults rose in it or stands at its
-//! last value, and every row that is given is one that was asked for.
+//! last value, any other answer leaves the count, and every row that is given is one that was asked for.
 //!
-//! [`MemoryKeeper`] keeps a plain list, always tells it, and fails exactly by its plan. [`FadingKeeper`] stops telling
-//! at its first failure; it is there to try the callers.
+//! [`MemoryKeeper`] keeps a plain list, always tells it, and fails exactly by its plan. In [`doubles`] are keepers for
+//! the tests of callers.
 //!
 //! What a desk's rows mean, and when one may be added, is left to the layers above. Nothing here reads what a row keeps
 //! but whether it has its certificate.
@@ -18,7 +18,8 @@
 
 mod changing;
 mod copies;
-mod fading;
+pub mod doubles;
+mod keeping;
 mod memory;
 mod plan;
 mod reading;
@@ -26,12 +27,10 @@ mod row_list;
 mod rows;
 #[cfg(test)]
 mod tests;
-mod traits;
 
 pub use copies::copy_key;
-pub use fading::FadingKeeper;
+pub use keeping::{KeepRefusal, Keeper, MOST_ROWS};
 pub use memory::MemoryKeeper;
 pub use plan::{KeeperPlan, Moment};
 pub use row_list::Rows;
 pub use rows::{CaPart, IssuedPart, OwnPart, Part, Row, Settled, Table};
-pub use traits::{KeepRefusal, Keeper, MOST_ROWS};

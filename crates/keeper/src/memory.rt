@@ -7,7 +7,7 @@ ghost use Rattle.keeper.specs.Keeping.{Adds, AddAsked, Settles, SettleAsked, Fin
 ghost use Rattle.keeper.specs.Planned.{next_moment, IsCounted, AddsAt, SettlesAt, ReadsAt};
 
 use crate::changing::{append, append_and_fail, settle, settle_and_fail};
-use crate::plan::begin;
+use crate::plan::{begin, count_fault};
 use crate::reading::{copy_at, copy_desk, copy_holder, count_of};
 use crate::{KeepRefusal, Keeper, KeeperPlan, Moment, Row, Rows, Settled, Table};
 use holder_reference::{Holder, Reference};
@@ -67,13 +67,15 @@ impl Keeper for MemoryKeeper {
         ensures cause { FaultRose self.old.faults self.new.faults result }
         // It fails exactly where its plan says, before its change or after it.
         ensures planned { AddsAt (next_moment self.old.plan self.old.calls) self.old.rows self.new.rows row.now result }
-        ensures counted { IsCounted self.old self.new }
+        ensures counted { IsCounted self.old self.new result }
     {
-        match begin(&self.plan, &mut self.calls, &mut self.faults) {
+        let result = match begin(&self.plan, &mut self.calls) {
             Some(Moment::Before) => Err(KeepRefusal::Failed),
             Some(Moment::After) => append_and_fail(alloc, &mut self.rows, row),
             None => append(alloc, &mut self.rows, row),
-        }
+        };
+        count_fault(&mut self.faults, &result);
+        result
     }
 
     fn settle(
@@ -89,15 +91,17 @@ impl Keeper for MemoryKeeper {
         ensures cause { FaultRose self.old.faults self.new.faults result }
         // It fails exactly where its plan says, before its change or after it.
         ensures planned { SettlesAt (next_moment self.old.plan self.old.calls) self.old.rows self.new.rows desk reference.now settled.now result }
-        ensures counted { IsCounted self.old self.new }
+        ensures counted { IsCounted self.old self.new result }
     {
-        match begin(&self.plan, &mut self.calls, &mut self.faults) {
+        let result = match begin(&self.plan, &mut self.calls) {
             Some(Moment::Before) => Err(KeepRefusal::Failed),
             Some(Moment::After) => {
                 settle_and_fail(alloc, &mut self.rows, desk, reference, settled)
             }
             None => settle(alloc, &mut self.rows, desk, reference, settled),
-        }
+        };
+        count_fault(&mut self.faults, &result);
+        result
     }
 
     fn find(
@@ -112,12 +116,14 @@ impl Keeper for MemoryKeeper {
         ensures cause { FaultRose self.old.faults self.new.faults result }
         // It fails exactly where its plan says.
         ensures planned { ReadsAt (next_moment self.old.plan self.old.calls) result }
-        ensures counted { IsCounted self.old self.new }
+        ensures counted { IsCounted self.old self.new result }
     {
-        if begin(&self.plan, &mut self.calls, &mut self.faults).is_some() {
-            return Err(KeepRefusal::Failed);
-        }
-        copy_at(alloc, &self.rows, table, desk, reference)
+        let result = match begin(&self.plan, &mut self.calls) {
+            Some(_) => Err(KeepRefusal::Failed),
+            None => copy_at(alloc, &self.rows, table, desk, reference),
+        };
+        count_fault(&mut self.faults, &result);
+        result
     }
 
     fn of_desk(&mut self, alloc: Global, table: Table, desk: u32) -> Result<Rows, KeepRefusal>
@@ -126,12 +132,14 @@ impl Keeper for MemoryKeeper {
         ensures cause { FaultRose self.old.faults self.new.faults result }
         // It fails exactly where its plan says.
         ensures planned { ReadsAt (next_moment self.old.plan self.old.calls) result }
-        ensures counted { IsCounted self.old self.new }
+        ensures counted { IsCounted self.old self.new result }
     {
-        if begin(&self.plan, &mut self.calls, &mut self.faults).is_some() {
-            return Err(KeepRefusal::Failed);
-        }
-        copy_desk(alloc, &self.rows, table, desk)
+        let result = match begin(&self.plan, &mut self.calls) {
+            Some(_) => Err(KeepRefusal::Failed),
+            None => copy_desk(alloc, &self.rows, table, desk),
+        };
+        count_fault(&mut self.faults, &result);
+        result
     }
 
     fn of_holder(
@@ -146,12 +154,14 @@ impl Keeper for MemoryKeeper {
         ensures cause { FaultRose self.old.faults self.new.faults result }
         // It fails exactly where its plan says.
         ensures planned { ReadsAt (next_moment self.old.plan self.old.calls) result }
-        ensures counted { IsCounted self.old self.new }
+        ensures counted { IsCounted self.old self.new result }
     {
-        if begin(&self.plan, &mut self.calls, &mut self.faults).is_some() {
-            return Err(KeepRefusal::Failed);
-        }
-        copy_holder(alloc, &self.rows, table, desk, holder)
+        let result = match begin(&self.plan, &mut self.calls) {
+            Some(_) => Err(KeepRefusal::Failed),
+            None => copy_holder(alloc, &self.rows, table, desk, holder),
+        };
+        count_fault(&mut self.faults, &result);
+        result
     }
 
     fn count(&mut self, _alloc: Global, table: Table, desk: u32) -> Result<u64, KeepRefusal>
@@ -160,11 +170,13 @@ impl Keeper for MemoryKeeper {
         ensures cause { FaultRose self.old.faults self.new.faults result }
         // It fails exactly where its plan says.
         ensures planned { ReadsAt (next_moment self.old.plan self.old.calls) result }
-        ensures counted { IsCounted self.old self.new }
+        ensures counted { IsCounted self.old self.new result }
     {
-        if begin(&self.plan, &mut self.calls, &mut self.faults).is_some() {
-            return Err(KeepRefusal::Failed);
-        }
-        Ok(count_of(&self.rows, table, desk) as u64)
+        let result = match begin(&self.plan, &mut self.calls) {
+            Some(_) => Err(KeepRefusal::Failed),
+            None => Ok(count_of(&self.rows, table, desk) as u64),
+        };
+        count_fault(&mut self.faults, &result);
+        result
     }
 }

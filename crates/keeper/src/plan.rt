@@ -2,8 +2,10 @@
 ghost use Rattle.std.specs.Prelude.{◌≡◌, [], ◌∷◌, ◌++◌, length, OnOk, OnErr, slice_get};
 ghost use Rattle.std.specs.Option.{option_copied};
 ghost use Rattle.eac_base.specs.Planned.{next_count};
+ghost use Rattle.keeper.specs.Keeping.{FaultRose};
 ghost use Rattle.keeper.specs.Planned.{moment_at, next_moment, faults_after};
 
+use crate::KeepRefusal;
 use eac_base::NoMemory;
 use std::alloc::Global;
 use std::marker::Model;
@@ -77,21 +79,26 @@ impl KeeperPlan {
     }
 }
 
-/// Counts a call, and the fault where it fails by the plan. Gives when it fails. Both counts stay at their last value.
-pub(crate) fn begin(plan: &KeeperPlan, calls: &mut u64, faults: &mut u64) -> Option<Moment>
+/// Counts a call, and gives when it fails, where it does. The count stays at its last value.
+pub(crate) fn begin(plan: &KeeperPlan, calls: &mut u64) -> Option<Moment>
     ensures planned { result ≡ next_moment plan.now calls.old }
     ensures calls { calls.new ≡ next_count calls.old }
-    ensures faults { faults.new ≡ faults_after result faults.old }
 {
-    let moment = match calls.checked_add(1) {
+    match calls.checked_add(1) {
         Some(call) => {
             *calls = call;
             plan.moment_at(call)
         }
         None => None,
-    };
-    if moment.is_some() {
+    }
+}
+
+/// Counts a fault exactly where the answer is `Failed`. The count stays at its last value.
+pub(crate) fn count_fault<T>(faults: &mut u64, answer: &Result<T, KeepRefusal>)
+    ensures exact { faults.new ≡ faults_after answer.now faults.old }
+    ensures cause { FaultRose faults.old faults.new answer.now }
+{
+    if matches!(answer, Err(KeepRefusal::Failed)) {
         *faults = faults.saturating_add(1);
     }
-    moment
 }

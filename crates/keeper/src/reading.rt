@@ -3,7 +3,7 @@ ghost use Rattle.std.specs.Prelude.{◌≡◌, Err, IfSome, IfErr, filter, lengt
 ghost use Rattle.std.specs.List.{All, position};
 ghost use Rattle.std.specs.Option.{option_copied};
 ghost use Rattle.keeper.specs.declared.rows.Table.TheVariants.{Own};
-ghost use Rattle.keeper.specs.declared.traits.KeepRefusal.TheVariants.{NoMemory as RefusedNoMemory};
+ghost use Rattle.keeper.specs.declared.keeping.KeepRefusal.TheVariants.{NoMemory as RefusedNoMemory};
 ghost use Rattle.keeper.specs.Rows.{row_at, rows_of, holder_rows, has_key, IsStorable};
 ghost use Rattle.keeper.specs.Keeping.{Gives, Finds, FindAsked, ListsDesk, DeskAsked, ListsHolder, HolderAsked, IsAsked};
 ghost use Rattle.keeper.specs.Steps.{is_wanted};

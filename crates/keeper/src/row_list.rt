@@ -1,7 +1,7 @@
 // Rows as a list that a reading gives.
 ghost use Rattle.std.specs.Prelude.{◌≡◌, [], ◌∷◌, ◌++◌, Err, length, OnOk, IfErr, slice_get};
 ghost use Rattle.std.specs.Option.{option_copied};
-ghost use Rattle.keeper.specs.declared.traits.KeepRefusal.TheVariants.{NoMemory as RefusedNoMemory};
+ghost use Rattle.keeper.specs.declared.keeping.KeepRefusal.TheVariants.{NoMemory as RefusedNoMemory};
 
 use crate::{KeepRefusal, Row};
 use std::alloc::Global;

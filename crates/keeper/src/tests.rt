@@ -5,9 +5,10 @@
 ghost use Rattle.std.specs.Prelude.{◌≤◌, length};
 ghost use Rattle.keeper.specs.Rows.{IsStorable, IsStorableKey, IsStorableSettled};
 
+use crate::doubles::FadingKeeper;
 use crate::{
-    CaPart, FadingKeeper, IssuedPart, KeepRefusal, Keeper, KeeperPlan, MemoryKeeper, Moment,
-    OwnPart, Part, Row, Rows, Settled, Table,
+    CaPart, IssuedPart, KeepRefusal, Keeper, KeeperPlan, MemoryKeeper, Moment, OwnPart, Part, Row,
+    Rows, Settled, Table,
 };
 use chat_rights::{Kind, Rights, Role, Template};
 use cv_dates::day_from_text;

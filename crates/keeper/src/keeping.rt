@@ -33,7 +33,7 @@ pub enum KeepRefusal {
 ///
 /// A keeper that doesn't tell its rows still owes what `asked` and `cause` say: each row that it gives has the table,
 /// desk, reference or holder that was asked for and could be added, `Full`, `Twice` and `Absent` come only from the
-/// calls that name them here, and `Failed` comes only where the count of faults rose.
+/// calls that name them here, `Failed` comes only where the count of faults rose, and any other answer leaves the count.
 pub trait Keeper {
     /// The rows in the order of adding, where the keeper tells them.
     ghost rows: { Self → Option (List Row) };
