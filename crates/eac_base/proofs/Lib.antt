@@ -1,6 +1,6 @@
 pub mod EqualBytes
+pub mod Pieces
 pub mod Rows
 pub mod RunLaws
 pub mod Steps
-pub mod Streams
 pub mod Tellings

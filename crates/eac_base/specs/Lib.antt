@@ -1,7 +1,9 @@
+pub mod Acknowledged
 pub mod Answers
 pub mod Bytes
 pub mod Causes
 pub mod Planned
 pub mod Runs
+pub mod Streaming
 pub mod Telling
 pub mod Text

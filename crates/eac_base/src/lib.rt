@@ -13,22 +13,24 @@
 
 mod acks;
 mod byte_lists;
+mod failures;
 mod memory_sink;
 mod memory_source;
 mod octets;
-mod outside;
 mod plan;
 mod std_streams;
+mod streams;
 #[cfg(test)]
 mod tests;
 mod whole;
 
 pub use acks::{Ack, Acks};
 pub use byte_lists::{ByteLists, Words};
+pub use failures::{Failed, NoMemory, ReadRefusal};
 pub use memory_sink::MemorySink;
 pub use memory_source::MemorySource;
 pub use octets::{Octets, are_bytes, is_same};
-pub use outside::{Failed, NoMemory, ReadRefusal, Sink, Source};
 pub use plan::{FailPlan, counted};
 pub use std_streams::{StdSink, StdSource};
+pub use streams::{Sink, Source, Stream};
 pub use whole::{read_all, write_all};

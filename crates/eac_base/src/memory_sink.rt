@@ -1,12 +1,12 @@
 // A sink in memory.
-ghost use Rattle.std.specs.Prelude.{◌≡◌, ◌⊎◌, ℕ, ◌+◌, ◌-◌, ◌^◌, ◌<◌, ◌≤◌, [], min, length, take, List, Some, IfOk, IsErr, ◌↔◌, Contains};
+ghost use Rattle.std.specs.Prelude.{◌≡◌, ◌⊎◌, ℕ, ◌+◌, ◌-◌, ◌^◌, ◌<◌, ◌≤◌, [], min, length, take, List, Some, None, IfOk, IsErr, ◌↔◌, Contains};
 ghost use Rattle.std.specs.Io.{WritesAtMost};
 ghost use Rattle.std.specs.Io.KnownBytes.{WriteAppends};
 ghost use Rattle.eac_base.specs.Causes.{HasCause};
-ghost use Rattle.eac_base.specs.Planned.{IsPlanned, next_count};
+ghost use Rattle.eac_base.specs.Planned.{IsPlanned, after_write};
 
 use crate::plan::counted;
-use crate::{FailPlan, Failed, NoMemory, Sink};
+use crate::{FailPlan, Failed, NoMemory, Sink, Stream};
 use std::alloc::Global;
 use std::marker::Model;
 
@@ -57,11 +57,19 @@ impl MemorySink {
     }
 }
 
-impl Sink for MemorySink {
+impl Stream for MemorySink {
+    ghost left = { λ _. None };
+
+    ghost faults = { λ _. 0 };
+
+    ghost reads = { λ _. None };
+
     ghost taken = { λ s. Some s.taken };
 
-    ghost faults = { λ s. s.faults };
+    ghost lost = { λ s. s.faults };
+}
 
+impl Sink for MemorySink {
     fn write(&mut self, from: &[u8]) -> Result<usize, Failed>
         ensures count { WritesAtMost result from.now }
         ensures progress { IfOk result (λ n. 0 < length from.now → 0 < n) }
@@ -69,8 +77,8 @@ impl Sink for MemorySink {
         ensures cause { HasCause self.old.faults self.new.faults result }
         // It fails exactly where its plan says, or where no room is left for a nonempty piece.
         ensures plan { IsErr result ↔ (IsPlanned self.old.plan self.old.calls ⊎ ((self.old.room ≡ 0) × (0 < length from.now))) }
-        ensures calls { (self.new.calls ≡ next_count self.old.calls) × (self.new.plan ≡ self.old.plan) }
         ensures most { IfOk result (λ n. n ≡ min (length from.now) self.old.room) }
+        ensures after { self.new ≡ after_write self.old from.now result }
     {
         let (fails, calls) = counted(&self.plan, self.calls);
         self.calls = calls;

@@ -1,12 +1,12 @@
 // A source in memory.
-ghost use Rattle.std.specs.Prelude.{◌≡◌, ℕ, ◌+◌, ◌-◌, ◌^◌, ◌<◌, ◌≤◌, min, length, take, drop, List, Some, IfOk, IsErr, ◌↔◌, Contains};
+ghost use Rattle.std.specs.Prelude.{◌≡◌, ℕ, ◌+◌, ◌-◌, ◌^◌, ◌<◌, ◌≤◌, min, length, take, drop, List, Some, None, IfOk, IsErr, ◌↔◌, Contains};
 ghost use Rattle.std.specs.Io.{ReadsAtMost};
 ghost use Rattle.std.specs.Io.KnownBytes.{ReadConsumes};
 ghost use Rattle.eac_base.specs.Causes.{HasCause};
-ghost use Rattle.eac_base.specs.Planned.{IsPlanned, next_count};
+ghost use Rattle.eac_base.specs.Planned.{IsPlanned, after_read};
 
 use crate::plan::counted;
-use crate::{FailPlan, Failed, Octets, Source};
+use crate::{FailPlan, Failed, Octets, Source, Stream};
 use std::marker::Model;
 
 /// Bytes to read, whose reads fail by a plan.
@@ -69,20 +69,28 @@ fn given(room: usize, rest: usize, at: usize, most: u64, cut: u64) -> usize
     count
 }
 
-impl Source for MemorySource {
+impl Stream for MemorySource {
     ghost left = { λ s. Some s.left };
 
     ghost faults = { λ s. s.faults };
 
+    ghost reads = { λ s. Some s.calls };
+
+    ghost taken = { λ _. None };
+
+    ghost lost = { λ _. 0 };
+}
+
+impl Source for MemorySource {
     fn read(&mut self, into: &mut [u8]) -> Result<usize, Failed>
         ensures count { ReadsAtMost result into.new }
         ensures bytes { ReadConsumes (Some self.old.left) (Some self.new.left) result into.new }
         ensures cause { HasCause self.old.faults self.new.faults result }
         // It fails exactly where its plan says.
         ensures plan { IsErr result ↔ IsPlanned self.old.plan self.old.calls }
-        ensures calls { (self.new.calls ≡ next_count self.old.calls) × (self.new.plan ≡ self.old.plan) }
         ensures most { IfOk result (λ n. n ≤ self.old.most) }
         ensures cut { IfOk result (λ n. self.old.given < self.old.cut → self.old.given + n ≤ self.old.cut) }
+        ensures after { self.new ≡ after_read self.old result }
     {
         let (fails, calls) = counted(&self.plan, self.calls);
         self.calls = calls;

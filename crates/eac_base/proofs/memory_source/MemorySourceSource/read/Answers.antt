@@ -1,6 +1,6 @@
 use Rattle.std.proofs.Common.{◌≡◌, ℕ, List, ◌-◌, ◌<◌, length, take, drop, ap, sym, ◌∙◌, arith, length-append, length-drop, length-take, subst}
 use Rattle.eac_base.specs.Planned.{SourceValue}
-use Rattle.eac_base.proofs.Streams.{front_is_read, end_is_reached, rest_is_whole}
+use Rattle.eac_base.proofs.Pieces.{front_is_read, end_is_reached, rest_is_whole}
 use Rattle.eac_base.proofs.memory_source.MemorySourceSource.read.Goals as goal
 
 pub returns-clause-bytes : goal.returns-clause-bytes
