@@ -5,7 +5,7 @@ use Rattle.std.specs.Prelude.{not, ◌==◌, ◌&&◌, filter}
 use Rattle.std.specs.List.{position_or_len, onto_first, slice_split, enumerate_from, list_all}
 use Rattle.std.specs.Str.Lines.{lines, lines_of_parts, strip_carriage_return}
 use Rattle.std.proofs.lemmas.List.Splits.{slice_split_first}
-use Rattle.eac_base.proofs.Streams.{rest_is_whole}
+use Rattle.eac_base.proofs.Pieces.{rest_is_whole}
 use Rattle.eac_base.specs.Text.{is_passed_over, is_word}
 use Rattle.plain_text.specs.Lines.{pieces, pieces_left, numbered_from, one_word}
 
