@@ -2,6 +2,8 @@ pub mod Acknowledged
 pub mod Answers
 pub mod Bytes
 pub mod Causes
+pub mod Connections
+pub mod Listening
 pub mod Planned
 pub mod Runs
 pub mod Streaming

@@ -1,5 +1,5 @@
 // Bytes that are owned, and equality of bytes.
-ghost use Rattle.std.specs.Prelude.{◌≡◌, ℕ, List, [], ◌++◌, length, IfOk, OnOk, OnErr};
+ghost use Rattle.std.specs.Prelude.{◌≡◌, ℕ, List, [], ◌++◌, length, take, IfOk, OnOk, OnErr};
 ghost use Rattle.std.specs.Str.{bytes_eq};
 ghost use Rattle.eac_base.specs.Bytes.{AreBytes};
 
@@ -31,6 +31,15 @@ impl Octets {
         }
     }
 
+    /// No bytes, with room for so many taken at once.
+    pub fn with_room(alloc: Global, room: usize) -> Result<Octets, NoMemory>
+        ensures { IfOk result (λ o. o ≡ []) }
+    {
+        Ok(Octets {
+            bytes: Vec::with_capacity(alloc, room)?,
+        })
+    }
+
     /// A copy of the bytes.
     pub fn from_slice(alloc: Global, bytes: &[u8]) -> Result<Octets, NoMemory>
         ensures { IfOk result (λ o. o ≡ bytes.now) }
@@ -47,6 +56,13 @@ impl Octets {
     {
         self.bytes.extend_from_slice(bytes)?;
         Ok(())
+    }
+
+    /// Keeps the first `len` bytes, and all where there aren't more.
+    pub fn truncate(&mut self, len: usize)
+        ensures { self.new ≡ take len self.old }
+    {
+        self.bytes.truncate(len);
     }
 
     /// The number of bytes.
