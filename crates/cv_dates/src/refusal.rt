@@ -1,3 +1,6 @@
+use std::error::Error;
+use std::fmt;
+
 /// Why bytes are no date: the first test that fails, in this order.
 #[derive(Clone, Copy, Debug, PartialEq, Eq)]
 pub enum DateRefusal {
@@ -24,3 +27,15 @@ impl DateRefusal {
         }
     }
 }
+
+impl fmt::Display for DateRefusal {
+    fn fmt<W: fmt::Write>(&self, f: &mut fmt::Formatter<W>) -> fmt::Result {
+        f.write_str(match self {
+            DateRefusal::Length => "a date has six digits",
+            DateRefusal::Digit => "a date has digits alone",
+            DateRefusal::NoSuchDay => "the calendar has no such day",
+        })
+    }
+}
+
+impl Error for DateRefusal {}

@@ -1,4 +1,5 @@
 use super::*;
+use eac_base::FailPlan;
 use std::process::Abort;
 use std::test::Fail;
 
@@ -107,4 +108,36 @@ fn each_day_of_the_century_goes_round_and_no_other_is_read(rt: HostRuntime) -> R
     assert_eq!(rt; numbers.next(), None);
     assert!(rt; Day::from_number(36_525).is_none());
     Ok(())
+}
+
+fn asked<C: DayClock>(clock: &mut C) -> Option<u32> {
+    match clock.today() {
+        Ok(day) => Some(day.number()),
+        Err(_) => None,
+    }
+}
+
+#[test]
+fn a_clock_gives_its_day_and_fails_by_its_plan(rt: HostRuntime) -> Result<(), Fail> {
+    let mut plan = FailPlan::new(rt.alloc());
+    plan.push(2)?;
+    let day = Day::from_number(8825).unwrap_or(Day::numbered(0));
+    let mut clock = MemoryClock::new(day, plan);
+    assert!(rt; asked(&mut clock) == Some(8825));
+    assert!(rt; asked(&mut clock) == None);
+    assert!(rt; asked(&mut clock) == Some(8825));
+    drop(clock);
+    Ok(())
+}
+
+#[test]
+fn the_systems_day_is_utc_and_of_these_years(rt: HostRuntime) {
+    assert!(rt; utc_day(946_684_799).is_none());
+    assert_eq!(rt; utc_day(946_684_800), Day::from_number(0));
+    // 2024-02-29 23:59:59 and 2099-12-31 23:59:59, by `date -u +%s`.
+    assert_eq!(rt; utc_day(1_709_251_199), Day::from_number(8825));
+    assert_eq!(rt; utc_day(4_102_444_799), Day::from_number(36_524));
+    assert!(rt; utc_day(4_102_444_800).is_none());
+    let mut clock = StdClock::new(rt);
+    assert!(rt; asked(&mut clock).is_some());
 }
