@@ -46,8 +46,8 @@ fn two_digits(hex: &[u8]) -> Option<(u8, u8, &[u8])>
 pub fn read_byte(word: &[u8]) -> Option<u8>
     ensures { result ≡ byte_word word.now }
 {
-    let (high, low, rest) = two_digits(word)?;
-    if !rest.is_empty() {
+    let (high, low, more) = two_digits(word)?;
+    if !more.is_empty() {
         return None;
     }
     byte_of(high, low)

@@ -1,6 +1,5 @@
-pub mod Cuts
 pub mod DeskLists
 pub mod LineWords
-pub mod NumberWords
-pub mod Rosters
+pub mod LinesSaid
 pub mod SetupReading
+pub mod Setups

@@ -4,7 +4,7 @@ use Rattle.std.specs.declared.option.Option.{Option}
 use Rattle.std.specs.Prelude.{◌==◌}
 use Rattle.std.specs.List.{onto_first}
 use Rattle.eac_base.specs.Answers.{◌gives◌}
-use Rattle.policy_limits.specs.Lines.{pieces, pieces_left, one_word}
+use Rattle.plain_text.specs.Lines.{pieces, pieces_left, one_word}
 use Rattle.policy_limits.specs.SetupLine.{suspended_word, suspended_words}
 
 -- ---- a line has a piece at least

@@ -1,7 +1,5 @@
 pub mod Desks
-pub mod Lines
-pub mod Numbers
-pub mod Roster
+pub mod Setup
 pub mod SetupLine
 pub mod SetupText
 pub mod Validity

@@ -30,7 +30,8 @@ impl Desks {
 
     /// With one registration more; none where memory is wanting.
     fn with(mut self, registration: &Registration) -> Option<Desks>
-        ensures { IfSome result (λ desks. (gs : List said.Registration) → AreAt self.lists gs → AreAt desks.lists (gs ++ registration.now ∷ [])) }
+        ensures { IfSome result (λ desks. (gs : List said.Registration)
+            → AreAt self.lists gs → AreAt desks.lists (gs ++ registration.now ∷ [])) }
     {
         let mut list = match self.lists.remove(&registration.desk) {
             Some(list) => list,
@@ -47,7 +48,8 @@ impl Desks {
 
     /// The first registration of this holder at this desk.
     pub fn at(&self, desk: u32, holder: &Holder) -> Option<&Registration>
-        ensures { (gs : List said.Registration) → AreAt self.now.lists gs → option_copied result ≡ find (λ g. (g.desk == desk) && bytes_eq g.holder holder.now) gs }
+        ensures { (gs : List said.Registration) → AreAt self.now.lists gs
+            → option_copied result ≡ find (λ g. (g.desk == desk) && bytes_eq g.holder holder.now) gs }
     {
         match self.lists.get(&desk) {
             Some(list) => list.at_desk(desk, holder),
@@ -58,7 +60,8 @@ impl Desks {
 
 /// The same registrations with one more; none where memory is wanting now, or was before.
 pub fn with_more(desks: Option<Desks>, registration: &Registration) -> Option<Desks>
-    ensures { (gs : List said.Registration) → IfSome desks (λ d. AreAt d.lists gs) → IfSome result (λ d. AreAt d.lists (gs ++ registration.now ∷ [])) }
+    ensures { (gs : List said.Registration) → IfSome desks (λ d. AreAt d.lists gs)
+        → IfSome result (λ d. AreAt d.lists (gs ++ registration.now ∷ [])) }
 {
     match desks {
         Some(desks) => desks.with(registration),

@@ -5,7 +5,8 @@ ghost use Rattle.policy_limits.specs.Validity as words;
 use chat_rights::Role;
 use cv_dates::{Day, plus_days};
 
-/// The fewest days that a certificate of this role is valid for (after BSI TR-03139; the numbers are this project's own).
+/// The fewest days that a certificate of this role is valid for (after BSI TR-03139; the numbers are this project's
+/// own).
 pub fn minimum_days(role: Role) -> u32
     ensures { result ≡ words.minimum_days role }
 {
@@ -16,7 +17,8 @@ pub fn minimum_days(role: Role) -> u32
     }
 }
 
-/// The most days that a certificate of this role is valid for (after BSI TR-03139; the numbers are this project's own).
+/// The most days that a certificate of this role is valid for (after BSI TR-03139; the numbers are this project's
+/// own).
 pub fn maximum_days(role: Role) -> u32
     ensures { result ≡ words.maximum_days role }
 {

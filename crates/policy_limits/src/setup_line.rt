@@ -3,20 +3,19 @@ ghost use Rattle.std.specs.Prelude.{◌≡◌, [], ◌∷◌, Some, None, MatchO
 ghost use Rattle.std.specs.Option.{option_copied};
 ghost use Rattle.eac_base.specs.Answers.{◌gives◌};
 ghost use Rattle.eac_base.specs.Text.{words};
-ghost use Rattle.policy_limits.specs.Lines.{pieces_left};
-ghost use Rattle.policy_limits.specs.Roster as roster;
+ghost use Rattle.plain_text.specs.Lines.{pieces_left};
+ghost use Rattle.policy_limits.specs.Setup as setups;
 ghost use Rattle.policy_limits.specs.SetupLine as grammar;
 
 use crate::limits::{maximum_days, minimum_days};
-use crate::numbers::{read_number, read_rights};
 use crate::party::{Party, PartyKind};
 use crate::registration::{First, Registration};
 use crate::setup::Setup;
-use crate::words::{are_words, cut, next_word, one_word};
+use crate::setup_words::{form_of, holder_of, limited_of, rights_of};
 use chat_rights::Role;
 use eac_base::is_same;
-use holder_reference::{Holder, first_sequence, join, read_holder};
-use signature_provider::FormName;
+use holder_reference::{Holder, first_sequence, join};
+use plain_text::words::{are_words, cut, next_word, one_word};
 
 /// What a setup line adds.
 #[derive(Clone, Copy, Debug, PartialEq, Eq)]
@@ -25,32 +24,10 @@ pub enum SetupLine {
     Registration(Registration),
 }
 
-/// Reads HOLDER.
-fn holder_of(word: &[u8]) -> Option<Holder>
-    ensures { result ≡ grammar.holder_word word.now }
-{
-    match read_holder(word) {
-        Ok(holder) => Some(holder),
-        Err(_) => None,
-    }
-}
-
-/// Reads FORM.
-fn form_of(word: &[u8]) -> Option<FormName>
-    ensures { result ≡ grammar.form_word word.now }
-{
-    if is_same(word, b"ec") {
-        Some(FormName::Ec)
-    } else if is_same(word, b"rsa") {
-        Some(FormName::Rsa)
-    } else {
-        None
-    }
-}
-
 /// The party that an earlier line names, with its number.
 fn named_party<'a>(setup: &'a Setup, word: &[u8]) -> Option<(u32, &'a Party)>
-    ensures { MatchOption result (grammar.named_party setup.now word.now ≡ None) (λ named. grammar.named_party setup.now word.now ≡ Some (named.0, named.1.now)) }
+    ensures { let said = grammar.named_party setup.now word.now in MatchOption result (said ≡ None)
+        (λ named. said ≡ Some (named.0, named.1.now)) }
 {
     let holder = holder_of(word)?;
     let number = setup.number_of(&holder)?;
@@ -60,7 +37,7 @@ fn named_party<'a>(setup: &'a Setup, word: &[u8]) -> Option<(u32, &'a Party)>
 
 /// Whether a party of this kind can have certificates of the role.
 fn can_be(role: Role, kind: &PartyKind) -> bool
-    ensures { result ≡ roster.can_be role kind.now }
+    ensures { result ≡ setups.can_be role kind.now }
 {
     match role {
         Role::Cvca => matches!(kind, PartyKind::Cvca { .. }),
@@ -176,8 +153,8 @@ fn authority_of(holder: &[u8], form: &[u8], rights: &[u8], days: &[u8]) -> Optio
     ensures { result ≡ grammar.authority_of holder.now form.now rights.now days.now }
 {
     let form = form_of(form)?;
-    let rights = read_rights(rights)?;
-    let days = read_number(days)?;
+    let rights = rights_of(rights)?;
+    let days = limited_of(days)?;
     party_of(PartyKind::Cvca { form, rights, days }, holder)
 }
 
@@ -209,9 +186,9 @@ fn read_registration(setup: &Setup, rest: Option<&[u8]>) -> Option<SetupLine>
         desk,
         holder: holder_in(setup, role, holder)?,
         role,
-        rights: read_rights(rights)?,
-        days: read_number(days)?,
-        live_limit: read_number(live_limit)?,
+        rights: rights_of(rights)?,
+        days: limited_of(days)?,
+        live_limit: limited_of(live_limit)?,
         first: first_of(setup, &party.kind, first)?,
         suspended,
     }))

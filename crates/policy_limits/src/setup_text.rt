@@ -1,41 +1,26 @@
 // Setups as texts.
 ghost use Rattle.std.specs.Prelude.{◌≡◌, IfErr, OnOk, OnErr, Ok, Err, IsTrue};
 ghost use Rattle.eac_base.specs.Answers.{Answers, Refuses};
-ghost use Rattle.policy_limits.specs.Roster as roster;
+ghost use Rattle.policy_limits.specs.Setup as setups;
 ghost use Rattle.policy_limits.specs.SetupLine as grammar;
 ghost use Rattle.policy_limits.specs.declared.setup_line.SetupLine.TheVariants as said;
 ghost use Rattle.policy_limits.specs.SetupText as words;
-ghost use Rattle.policy_limits.specs.SetupText.{FirstIsNamed};
 ghost use Rattle.policy_limits.specs.Validity as limits;
 
 use crate::desks::with_more;
 use crate::limits::{maximum_days, minimum_days};
-use crate::lines::next_numbered;
 use crate::party::PartyKind;
 use crate::registration::Registration;
 use crate::setup::Setup;
 use crate::setup_line::{SetupLine, read_line};
+use crate::setup_refusal::SetupRefusal;
 use chat_rights::Role;
 use eac_base::NoMemory;
+use plain_text::lines::next_numbered;
 use std::alloc::Global;
 
 /// The most parties of a setup.
 const MOST_PARTIES: usize = 1_000;
-
-/// Why a text wasn't read as a setup: the first line that breaks a rule, the first line of the text being line 1, with
-/// the first rule in this order that it breaks.
-#[derive(Clone, Copy, Debug, PartialEq, Eq)]
-pub enum SetupRefusal {
-    /// The line isn't in the grammar of setup lines, or names a party that isn't in an earlier line or can't have that
-    /// part.
-    Form { line: u64 },
-    /// Days or a live limit are out of their limits, or it is the thousand-and-first party.
-    Limit { line: u64 },
-    /// The holder is a party already, or registered at the desk already.
-    Twice { line: u64 },
-    /// Memory is wanting.
-    NoMemory,
-}
 
 /// Whether a certificate of this role may be valid for so many days.
 fn fits_role(role: Role, days: u32) -> bool
@@ -45,7 +30,7 @@ fn fits_role(role: Role, days: u32) -> bool
 }
 
 fn party_fits(kind: &PartyKind) -> bool
-    ensures { result ≡ roster.party_fits kind.now }
+    ensures { result ≡ setups.party_fits kind.now }
 {
     match kind {
         PartyKind::Cvca { days, .. } => fits_role(Role::Cvca, *days),
@@ -54,7 +39,7 @@ fn party_fits(kind: &PartyKind) -> bool
 }
 
 fn registration_fits(registration: &Registration) -> bool
-    ensures { result ≡ roster.registration_fits registration.now }
+    ensures { result ≡ setups.registration_fits registration.now }
 {
     fits_role(registration.role, registration.days)
         && 1 <= registration.live_limit
@@ -128,19 +113,17 @@ pub fn take_line(setup: &mut Setup, number: u64, line: &[u8]) -> Result<(), Setu
     if !is_new(setup, &said) {
         return Err(SetupRefusal::Twice { line: number });
     }
-    if add(setup, said).is_err() {
-        return Err(SetupRefusal::NoMemory);
-    }
+    add(setup, said)?;
     Ok(())
 }
 
-/// Reads the setup lines of a text. Empty lines and lines that begin with `#` are passed over; an event line is no setup
-/// line.
+/// Reads the setup lines of a text. Empty lines and lines that begin with `#` are passed over; an event line is no
+/// setup line.
 ///
 /// # Errors
 ///
-/// The first line that breaks a rule, by the first rule that it breaks: [`SetupRefusal::Form`], [`SetupRefusal::Limit`],
-/// [`SetupRefusal::Twice`]; or [`SetupRefusal::NoMemory`].
+/// The first line that breaks a rule, by the first rule that it breaks: [`SetupRefusal::Form`],
+/// [`SetupRefusal::Limit`], [`SetupRefusal::Twice`]; or [`SetupRefusal::NoMemory`].
 pub fn read_setup(alloc: Global, text: &[u8]) -> Result<Setup, SetupRefusal>
     ensures { Answers (λ s. s) words.rule_of result (words.read_setup text.now) }
 {
@@ -148,16 +131,9 @@ pub fn read_setup(alloc: Global, text: &[u8]) -> Result<Setup, SetupRefusal>
     let mut last: u64 = 0;
     let mut rest = text;
     while let Some((number, line, after)) = next_numbered(rest, last) {
-        if let Err(refusal) = take_line(&mut setup, number, line) {
-            return Err(refusal);
-        }
+        take_line(&mut setup, number, line)?;
         last = number;
         rest = after;
     }
     Ok(setup)
 }
-
-/// A law of refused texts. The function does nothing: it is there for what it ensures.
-pub fn the_first_line_is_named()
-    ensures { FirstIsNamed }
-{}

@@ -1,4 +1,4 @@
-use Rattle.policy_limits.proofs.Rosters.{party_pushed}
+use Rattle.policy_limits.proofs.Setups.{party_pushed}
 use Rattle.policy_limits.proofs.setup_text.add.Goals as goal
 
 pub invariant_of-setup : goal.invariant_of-setup

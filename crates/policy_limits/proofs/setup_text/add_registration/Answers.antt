@@ -2,7 +2,7 @@ use Rattle.std.proofs.Common.{refl, sym, subst}
 use Rattle.std.specs.Prelude.{IfSome}
 use Rattle.policy_limits.specs.Desks.{AreAt}
 use Rattle.policy_limits.specs.declared.setup_line.SetupLine.TheVariants as said
-use Rattle.policy_limits.proofs.Rosters.{registration_pushed}
+use Rattle.policy_limits.proofs.Setups.{registration_pushed}
 use Rattle.policy_limits.proofs.setup_text.add_registration.Goals as goal
 
 pub invariant_of-setup-2 : goal.invariant_of-setup-2

@@ -1,5 +1,5 @@
 use Rattle.std.proofs.Common.{◌≡◌, ◌≤◌, ◌+◌, length}
-use Rattle.policy_limits.specs.Lines.{numbered_from}
+use Rattle.plain_text.specs.Lines.{numbered_from}
 use Rattle.policy_limits.specs.SetupText.{with_lines, read_setup}
 use Rattle.policy_limits.proofs.setup_text.read_setup.Given as goal
 

@@ -11,12 +11,16 @@ use Rattle.policy_limits.specs.declared.party.PartyKind.{PartyKind}
 use Rattle.policy_limits.specs.declared.party.PartyKind.TheVariants as kinds
 use Rattle.policy_limits.specs.declared.registration.Registration.{Registration}
 
-pub record Roster : Type 0 where
+pub record SetupValue : Type 0 where
   pub parties : List Party
   pub registrations : List Registration
 
-abbrev pub roster_of : List Party → List Registration → Roster
-roster_of parties registrations = record { parties = parties; registrations = registrations }
+-- The most parties of a setup.
+abbrev pub most_parties : ℕ
+most_parties = 1000
+
+abbrev pub setup_value : List Party → List Registration → SetupValue
+setup_value parties registrations = record { parties = parties; registrations = registrations }
 
 -- ---- what a party may be
 
@@ -44,13 +48,13 @@ can_be Terminal kind = is_inspection_system kind
 
 -- ---- looking up: a party's number is its place
 
-abbrev pub party : Roster → ℕ → Option Party
+abbrev pub party : SetupValue → ℕ → Option Party
 party r number = slice_get r.parties number
 
-abbrev pub number_of : Roster → List ℕ → Option ℕ
+abbrev pub number_of : SetupValue → List ℕ → Option ℕ
 number_of r holder = position (λ p. bytes_eq p.holder holder) r.parties
 
-abbrev pub registration : Roster → ℕ → List ℕ → Option Registration
+abbrev pub registration : SetupValue → ℕ → List ℕ → Option Registration
 registration r desk holder = find (λ g. (g.desk == desk) && bytes_eq g.holder holder) r.registrations
 
 -- ---- limits
@@ -63,7 +67,7 @@ party_fits kinds.Terminal = true
 abbrev pub registration_fits : Registration → Bool
 registration_fits g = fits_role g.role g.days && is_within 1 100 g.live_limit
 
--- ---- what each roster keeps
+-- ---- what each setup keeps
 
 -- No two are alike.
 abbrev pub are_distinct : {A : Type 0} → (A → A → Bool) → List A → Bool
@@ -76,8 +80,8 @@ have_one_holder p q = bytes_eq p.holder q.holder
 abbrev pub have_one_place : Registration → Registration → Bool
 have_one_place g h = (g.desk == h.desk) && bytes_eq g.holder h.holder
 
-pub record IsRoster (r : Roster) : Type 0 where
-  pub few : length r.parties ≤ 1000
+pub record IsSetup (r : SetupValue) : Type 0 where
+  pub few : length r.parties ≤ most_parties
   pub holders : IsTrue (are_distinct have_one_holder r.parties)
   pub places : IsTrue (are_distinct have_one_place r.registrations)
   pub parties_fit : IsTrue (list_all (λ p. party_fits p.kind) r.parties)

@@ -1,4 +1,4 @@
--- A roster to which a line adds something is a roster.
+-- A setup to which a line adds something is one.
 use Rattle.std.proofs.Common.{◌≡◌, ℕ, ◌+◌, ◌≤◌, Bool, true, false, cond, List, [], ◌∷◌, ◌++◌, length, None, Some, Ok, Err, refl, sym, ap, ◌∙◌, subst, arith, length-append, suc}
 use Rattle.std.specs.declared.option.Option.{Option}
 use Rattle.std.specs.declared.result.Result.{Result}
@@ -7,7 +7,7 @@ use Rattle.std.specs.List.{list_all, list_any, position_or_len}
 use Rattle.std.proofs.lemmas.Bool.Decides.{nat_tests}
 use Rattle.std.proofs.lemmas.List.Folds.{list_all-append, list_any-append}
 use Rattle.holder_reference.proofs.Digits.{both}
-use Rattle.policy_limits.specs.Roster.{Roster, IsRoster, roster_of, are_distinct, have_one_holder, have_one_place, party_fits, registration_fits}
+use Rattle.policy_limits.specs.Setup.{SetupValue, IsSetup, setup_value, are_distinct, have_one_holder, have_one_place, party_fits, registration_fits}
 use Rattle.policy_limits.specs.SetupLine.{fits, is_new}
 use Rattle.policy_limits.specs.declared.party.Party.{Party}
 use Rattle.policy_limits.specs.declared.registration.Registration.{Registration}
@@ -70,9 +70,9 @@ passes false c x y = cc
 all_more : {A : Type 0} (p : A → Bool) (xs : List A) (x : A) → IsTrue (list_all p xs) → IsTrue (p x) → IsTrue (list_all p (xs ++ x ∷ []))
 all_more p xs x all one = list_all-append p xs (x ∷ []) ∙ passes (list_all p xs) (p x) all one
 
--- ---- rosters
+-- ---- setups
 
-pub party_added : (ps : List Party) (gs : List Registration) (p : Party) → IsRoster (roster_of ps gs) → IsTrue (fits (roster_of ps gs) (said.Party p)) → IsTrue (is_new (roster_of ps gs) (said.Party p)) → IsRoster (roster_of (ps ++ p ∷ []) gs)
+pub party_added : (ps : List Party) (gs : List Registration) (p : Party) → IsSetup (setup_value ps gs) → IsTrue (fits (setup_value ps gs) (said.Party p)) → IsTrue (is_new (setup_value ps gs) (said.Party p)) → IsSetup (setup_value (ps ++ p ∷ []) gs)
 party_added ps gs p is fit new =
     let limits = both (party_fits p.kind) (nat_lt (length ps) 1000) fit in
     let room : length ps + 1 ≤ 1000 = grind (arith, nat_tests) in
@@ -84,7 +84,7 @@ party_added ps gs p is fit new =
       registrations_fit = is.registrations_fit;
     }
 
-pub registration_added : (ps : List Party) (gs : List Registration) (g : Registration) → IsRoster (roster_of ps gs) → IsTrue (fits (roster_of ps gs) (said.Registration g)) → IsTrue (is_new (roster_of ps gs) (said.Registration g)) → IsRoster (roster_of ps (gs ++ g ∷ []))
+pub registration_added : (ps : List Party) (gs : List Registration) (g : Registration) → IsSetup (setup_value ps gs) → IsTrue (fits (setup_value ps gs) (said.Registration g)) → IsTrue (is_new (setup_value ps gs) (said.Registration g)) → IsSetup (setup_value ps (gs ++ g ∷ []))
 registration_added ps gs g is fit new = record {
   few = is.few;
   holders = is.holders;
@@ -95,18 +95,18 @@ registration_added ps gs g is fit new = record {
 
 -- ---- what a push leaves, appended or not
 
-pub party_pushed : {U E : Type 0} (result : Result U E) (before : Roster) (line : SetupLine) (ps ps' : List Party) (gs : List Registration) (p : Party) → roster_of ps gs ≡ before → line ≡ said.Party p → IsRoster (roster_of ps gs) → IsTrue (fits before line) → IsTrue (is_new before line) → OnOk result (ps' ≡ ps ++ p ∷ []) → OnErr result (ps' ≡ ps) → IsRoster (roster_of ps' gs)
+pub party_pushed : {U E : Type 0} (result : Result U E) (before : SetupValue) (line : SetupLine) (ps ps' : List Party) (gs : List Registration) (p : Party) → setup_value ps gs ≡ before → line ≡ said.Party p → IsSetup (setup_value ps gs) → IsTrue (fits before line) → IsTrue (is_new before line) → OnOk result (ps' ≡ ps ++ p ∷ []) → OnErr result (ps' ≡ ps) → IsSetup (setup_value ps' gs)
 party_pushed (Ok u) before line ps ps' gs p view e is fit new pushed kept =
     let fit' = subst (λ l. IsTrue (fits before l)) e fit in
     let new' = subst (λ l. IsTrue (is_new before l)) e new in
-    subst (λ l. IsRoster (roster_of l gs)) (sym pushed)
+    subst (λ l. IsSetup (setup_value l gs)) (sym pushed)
     (party_added ps gs p is (subst (λ b. IsTrue (fits b (said.Party p))) (sym view) fit') (subst (λ b. IsTrue (is_new b (said.Party p))) (sym view) new'))
-party_pushed (Err f) before line ps ps' gs p view e is fit new pushed kept = subst (λ l. IsRoster (roster_of l gs)) (sym kept) is
+party_pushed (Err f) before line ps ps' gs p view e is fit new pushed kept = subst (λ l. IsSetup (setup_value l gs)) (sym kept) is
 
-pub registration_pushed : {U E : Type 0} (result : Result U E) (before : Roster) (line : SetupLine) (ps : List Party) (gs gs' : List Registration) (g : Registration) → roster_of ps gs ≡ before → line ≡ said.Registration g → IsRoster (roster_of ps gs) → IsTrue (fits before line) → IsTrue (is_new before line) → OnOk result (gs' ≡ gs ++ g ∷ []) → OnErr result (gs' ≡ gs) → IsRoster (roster_of ps gs')
+pub registration_pushed : {U E : Type 0} (result : Result U E) (before : SetupValue) (line : SetupLine) (ps : List Party) (gs gs' : List Registration) (g : Registration) → setup_value ps gs ≡ before → line ≡ said.Registration g → IsSetup (setup_value ps gs) → IsTrue (fits before line) → IsTrue (is_new before line) → OnOk result (gs' ≡ gs ++ g ∷ []) → OnErr result (gs' ≡ gs) → IsSetup (setup_value ps gs')
 registration_pushed (Ok u) before line ps gs gs' g view e is fit new pushed kept =
     let fit' = subst (λ l. IsTrue (fits before l)) e fit in
     let new' = subst (λ l. IsTrue (is_new before l)) e new in
-    subst (λ l. IsRoster (roster_of ps l)) (sym pushed)
+    subst (λ l. IsSetup (setup_value ps l)) (sym pushed)
     (registration_added ps gs g is (subst (λ b. IsTrue (fits b (said.Registration g))) (sym view) fit') (subst (λ b. IsTrue (is_new b (said.Registration g))) (sym view) new'))
-registration_pushed (Err f) before line ps gs gs' g view e is fit new pushed kept = subst (λ l. IsRoster (roster_of ps l)) (sym kept) is
+registration_pushed (Err f) before line ps gs gs' g view e is fit new pushed kept = subst (λ l. IsSetup (setup_value ps l)) (sym kept) is
