@@ -1,5 +1,5 @@
 -- What the lines of a text that is read say: a line says the same in every later setup.
-use Rattle.std.proofs.Common.{◌≡◌, ℕ, zero, suc, ◌+◌, ◌<◌, ◌≤◌, Bool, true, false, cond, List, [], ◌∷◌, ◌++◌, length, None, Some, Ok, Err, refl, sym, ap, ◌∙◌, subst, arith, append_assoc, length-append}
+use Rattle.std.proofs.Common.{◌≡◌, ℕ, zero, suc, ◌+◌, ◌<◌, ◌≤◌, Bool, true, false, cond, List, [], ◌∷◌, ◌++◌, length, None, Some, Ok, refl, sym, ap, ◌∙◌, subst, arith, append_assoc, length-append}
 use Rattle.std.specs.declared.option.Option.{Option}
 use Rattle.std.specs.declared.result.Result.{Result}
 use Rattle.std.specs.Prelude.{IsTrue, ◌&&◌, not, nat_lt, codes, is_some, slice_get, position}
@@ -11,10 +11,9 @@ use Rattle.eac_base.specs.Answers.{◌>>=◌, ◌>>◌, unless, some_or, ◌give
 use Rattle.eac_base.specs.Text.{words, numbered_lines}
 use Rattle.chat_rights.specs.declared.Role.{Role}
 use Rattle.chat_rights.specs.declared.Role.TheVariants.{Cvca}
-use Rattle.plain_text.specs.Lines.{one_word}
 use Rattle.policy_limits.specs.Setup.{SetupValue, setup_value, is_authority, can_be, party, number_of}
 use Rattle.policy_limits.specs.SetupLine as grammar
-use Rattle.policy_limits.specs.SetupText.{with_line, with_lines, with_said, said_in, party_said, registration_said, AreSaid, LinesAreSaid}
+use Rattle.policy_limits.specs.SetupText.{with_lines, with_said, said_in, party_said, registration_said, LinesAreSaid}
 use Rattle.policy_limits.specs.declared.party.Party.{Party}
 use Rattle.policy_limits.specs.declared.party.PartyKind.{PartyKind}
 use Rattle.policy_limits.specs.declared.party.PartyKind.TheVariants as kinds
