@@ -1,7 +1,9 @@
 -- Rights and their bits.
 use Rattle.std.proofs.Common.{◌≡◌, ℕ, zero, suc, ◌+◌, ◌*◌, ◌<◌, ◌↔◌, bit_and, sym, ◌∙◌, min, arith, ap₂, refl}
 use Rattle.std.specs.Int.{bit_at}
+use Rattle.std.proofs.lemmas.Bool.Decides.{nat_tests}
 use Rattle.std.proofs.lemmas.Nat.Bits.{bit_at_and}
+use Rattle.chat_rights.specs.declared.Kind.TheVariants.{Inspection}
 use Rattle.chat_rights.specs.Rights.{Grants}
 use Rattle.chat_rights.specs.Laws.{SameBitsSameRights}
 
@@ -27,7 +29,10 @@ same_bit x (suc (suc y)) p q e = absurd (omega arith)
 small_bit : (n bit : ℕ) → bit_at n bit < 2
 small_bit n bit = omega arith
 
-pub same_rights : SameBitsSameRights
-same_rights left right l r same =
+same_six : (left right : ℕ) → left < 64 → right < 64 → ((bit : ℕ) → bit < 6 → Grants left bit ↔ Grants right bit) → left ≡ right
+same_six left right l r same =
     let at : (bit : ℕ) → bit < 6 → bit_at left bit ≡ bit_at right bit = λ bit low. same_bit (bit_at left bit) (bit_at right bit) (small_bit left bit) (small_bit right bit) (same bit low) in
     omega (arith, six_bits left l, six_bits right r, at 0 (omega arith), at 1 (omega arith), at 2 (omega arith), at 3 (omega arith), at 4 (omega arith), at 5 (omega arith))
+
+pub same_rights : SameBitsSameRights
+same_rights Inspection left right l r same = same_six left right (grind (arith, nat_tests)) (grind (arith, nat_tests)) same

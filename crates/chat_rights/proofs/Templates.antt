@@ -3,6 +3,7 @@ use Rattle.std.proofs.Common.{◌≡◌, ℕ, ◌+◌, ◌*◌, ◌<◌, true, e
 use Rattle.std.specs.Prelude.{IfOk, IsOkAnd}
 use Rattle.std.specs.Str.{bytes_eq}
 use Rattle.std.proofs.lemmas.Bool.{eqb-true}
+use Rattle.std.proofs.lemmas.Bool.Decides.{nat_tests}
 use Rattle.eac_base.specs.Bytes.{AreBytes, is_empty}
 use Rattle.eac_base.specs.Answers.{Answers, refused_as}
 use Rattle.eac_base.proofs.EqualBytes.{bytes_eq-true}
@@ -15,7 +16,8 @@ use Rattle.chat_rights.specs.declared.Role.{Role}
 use Rattle.chat_rights.specs.declared.Role.TheVariants.{Cvca, Domestic, Foreign, Terminal}
 use Rattle.chat_rights.specs.declared.Template.{Template}
 use Rattle.chat_rights.specs.declared.TemplateRefusal.{TemplateRefusal}
-use Rattle.chat_rights.specs.Template.{read_template, template_text, part_with, identifier_of, template_byte, template_of_byte, role_number, IsTemplate}
+use Rattle.chat_rights.specs.Kinds.{identifier_of, rights_fit}
+use Rattle.chat_rights.specs.Template.{read_template, template_text, part_with, template_byte, template_of_byte, role_number, IsTemplate}
 use Rattle.chat_rights.specs.Laws.{ReadAfterWrite, WriteAfterRead}
 
 -- ---- written is read
@@ -30,9 +32,9 @@ byte_again Inspection Foreign rights h = grind arith
 byte_again Inspection Domestic rights h = grind arith
 byte_again Inspection Cvca rights h = grind arith
 
-again : (kind : Kind) (role : Role) (rights : ℕ) → rights < 64 → read_template (template_text (template_for kind role rights)) ≡ Ok (template_for kind role rights)
+again : (kind : Kind) (role : Role) (rights : ℕ) → rights_fit kind rights ≡ true → read_template (template_text (template_for kind role rights)) ≡ Ok (template_for kind role rights)
 unfolding template_for
-again Inspection role rights h = ap (λ (u : Template). Ok u) (byte_again Inspection role rights h)
+again Inspection role rights h = ap (λ (u : Template). Ok u) (byte_again Inspection role rights (grind (arith, nat_tests)))
 
 pub template_again : ReadAfterWrite
 unfolding template_for
@@ -81,11 +83,11 @@ one_byte (x ∷ y ∷ more) b e = absurd (let n = eqb-true _ _ e in omega arith)
 text_is : (i d content rest : List ℕ) (b : ℕ) → content ≡ object 0x06 i ++ rest → rest ≡ object 0x53 d ++ [] → i ≡ identifier_of Inspection → d ≡ b ∷ [] → b < 256 → content ≡ template_text (template_of_byte b)
 text_is i d content rest b c r id dd h = rw (c, r, id, dd, byte_back b h) refl
 
-rights_fit : (b : ℕ) → (template_of_byte b).rights < 64
-rights_fit b = omega arith
+byte_fits : (b : ℕ) → rights_fit Inspection (template_of_byte b).rights ≡ true
+byte_fits b = grind (arith, nat_tests)
 
-is_of : (u v : Template) (content : List ℕ) → u ≡ v → u.rights < 64 → content ≡ template_text u → IsTemplate v content
-is_of u v content e h t = record { rights_fit = rw (← e) h; spelling = t ∙ ap template_text e }
+is_of : (u v : Template) (content : List ℕ) → u ≡ v → rights_fit u.kind u.rights ≡ true → content ≡ template_text u → IsTemplate v content
+is_of u v content e h t = record { fit = rw (← e) h; spelling = t ∙ ap template_text e }
 
 pub template_stands : WriteAfterRead
 template_stands t content b e =
@@ -99,7 +101,7 @@ template_stands t content b e =
     let one = one_byte a.0.content access.content_bytes wide.0 in
     let read = template_of_byte (get_or a.0.content 0 0) in
     let rest : i.0.rest ≡ object 0x53 a.0.content ++ [] = access.text ∙ ap (λ (r : List ℕ). object 0x53 a.0.content ++ r) (empty_is a.0.rest empty.0) in
-    is_of read t content (ok_is read t wide.1) (rights_fit (get_or a.0.content 0 0))
+    is_of read t content (ok_is read t wide.1) (byte_fits (get_or a.0.content 0 0))
     (text_is i.0.content a.0.content content i.0.rest (get_or a.0.content 0 0) is.text rest (bytes_eq-true i.0.content (identifier_of Inspection) known.0) one.0 one.1)
 
 -- ---- the reader's answer
@@ -109,5 +111,5 @@ stands content (Ok t) b e = template_stands t content b e
 stands content (Err d) b e = tt
 
 pub is_found : (r : Result Template TemplateRefusal) (t : Template) (content : List ℕ) → IsTemplate t content → Answers (λ t. t) (λ e. Some e) r (read_template content) → IsOkAnd r (λ found. found ≡ t)
-is_found (Ok u) t content is e = ok_is u t (sym e ∙ ap read_template is.spelling ∙ template_again t is.rights_fit)
-is_found (Err d) t content is e = absurd (let no = sym e ∙ ap read_template is.spelling ∙ template_again t is.rights_fit in cc)
+is_found (Ok u) t content is e = ok_is u t (sym e ∙ ap read_template is.spelling ∙ template_again t is.fit)
+is_found (Err d) t content is e = absurd (let no = sym e ∙ ap read_template is.spelling ∙ template_again t is.fit in cc)

@@ -1,3 +1,4 @@
+pub mod Kinds
 pub mod Rights
 pub mod Template
 pub mod Laws

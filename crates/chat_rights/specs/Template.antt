@@ -1,11 +1,11 @@
 -- Certificate holder authorization templates: the identifier of a type of terminal, the role and the rights
 -- (BSI TR-03110-3, appendix C).
-use Rattle.std.specs.Prelude.{◌≡◌, ℕ, ◌+◌, ◌*◌, ◌/◌, ◌%◌, ◌<◌, List, [], ◌∷◌, ◌++◌, length, ◌==◌, if◌then◌else◌, Result, Ok, slice_index}
+use Rattle.std.specs.Prelude.{◌≡◌, ℕ, ◌+◌, ◌*◌, ◌/◌, ◌%◌, List, [], ◌∷◌, ◌++◌, length, ◌==◌, if◌then◌else◌, IsTrue, Result, Ok, slice_index}
 use Rattle.std.specs.Str.{bytes_eq}
 use Rattle.eac_base.specs.Bytes.{is_empty}
 use Rattle.eac_base.specs.Answers.{◌>>=◌, ◌>>◌, unless, refused_as}
 use Rattle.tlv_core.specs.Object.{object, first_object, First}
-use Rattle.chat_rights.specs.declared.Kind.{Kind}
+use Rattle.chat_rights.specs.Kinds.{identifier_of, width_of, rights_fit}
 use Rattle.chat_rights.specs.declared.Kind.TheVariants.{Inspection}
 use Rattle.chat_rights.specs.declared.Role.{Role}
 use Rattle.chat_rights.specs.declared.Role.TheVariants.{Cvca, Domestic, Foreign, Terminal}
@@ -14,10 +14,6 @@ use Rattle.chat_rights.specs.declared.TemplateRefusal.{TemplateRefusal}
 use Rattle.chat_rights.specs.declared.TemplateRefusal.TheVariants.{Form, UnknownType, Width}
 
 -- ---- what a template's content is
-
--- 0.4.0.127.0.7.3.1.2.1, the roles of inspection systems.
-abbrev pub identifier_of : Kind → List ℕ
-identifier_of Inspection = 0x04 ∷ 0x00 ∷ 0x7f ∷ 0x00 ∷ 0x07 ∷ 0x03 ∷ 0x01 ∷ 0x02 ∷ 0x01 ∷ []
 
 abbrev pub role_number : Role → ℕ
 role_number Terminal = 0
@@ -34,7 +30,7 @@ template_text t = object 0x06 (identifier_of t.kind) ++ object 0x53 (template_by
 
 -- The content is that of this template.
 pub record IsTemplate (t : Template) (content : List ℕ) : Type 0 where
-  pub rights_fit : t.rights < 64
+  pub fit : IsTrue (rights_fit t.kind t.rights)
   pub spelling : content ≡ template_text t
 
 -- ---- reading: the template, or the first test that fails
@@ -58,7 +54,7 @@ read_template content = do
   access ← part_with 0x53 identifier.rest
   unless (is_empty access.rest) Form
   unless (bytes_eq identifier.content (identifier_of Inspection)) UnknownType
-  unless (length access.content == 1) Width
+  unless (length access.content == width_of Inspection) Width
   Ok (template_of_byte (slice_index access.content 0))
 
 -- ---- the refusals by number

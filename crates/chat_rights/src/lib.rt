@@ -14,15 +14,19 @@
 ghost use Rattle.std.specs.Prelude.{◌≡◌};
 ghost use Rattle.chat_rights.specs.Template.{refusal_number};
 
+mod kinds;
 pub mod laws;
 mod reading;
 mod rights;
+mod roles;
 #[cfg(test)]
 mod tests;
 mod writing;
 
 pub use reading::read_template;
 pub use rights::{Rights, RightsText, meet, rights_text};
+use std::error::Error;
+use std::fmt;
 pub use writing::put_template;
 
 /// A type of terminal.
@@ -76,3 +80,15 @@ impl TemplateRefusal {
         }
     }
 }
+
+impl fmt::Display for TemplateRefusal {
+    fn fmt<W: fmt::Write>(&self, f: &mut fmt::Formatter<W>) -> fmt::Result {
+        f.write_str(match self {
+            TemplateRefusal::Form => "not an object 06 followed by an object 53 alone",
+            TemplateRefusal::UnknownType => "the identifier names no known type of terminal",
+            TemplateRefusal::Width => "role and rights have another width than their type's",
+        })
+    }
+}
+
+impl Error for TemplateRefusal {}

@@ -25,18 +25,6 @@ fn part_with(tag: Tag, bytes: &[u8]) -> Result<(&[u8], &[u8]), TemplateRefusal>
     }
 }
 
-/// The role of the bits 7 and 6 of a template's byte.
-fn role_of(number: u8) -> Role
-    ensures { result ≡ words.role_of number }
-{
-    match number {
-        0 => Role::Terminal,
-        1 => Role::Foreign,
-        2 => Role::Domestic,
-        _ => Role::Cvca,
-    }
-}
-
 fn template_in(content: &[u8]) -> Result<Template, TemplateRefusal>
     ensures { Answers (λ t. t) (λ e. Some e) result (words.read_template content.now) }
 {
@@ -45,13 +33,13 @@ fn template_in(content: &[u8]) -> Result<Template, TemplateRefusal>
     if !rest.is_empty() {
         return Err(TemplateRefusal::Form);
     }
-    if identifier != [0x04, 0x00, 0x7f, 0x00, 0x07, 0x03, 0x01, 0x02, 0x01].as_slice() {
+    if identifier != Kind::Inspection.identifier().as_slice() {
         return Err(TemplateRefusal::UnknownType);
     }
     match access {
         [byte] => Ok(Template {
             kind: Kind::Inspection,
-            role: role_of(*byte / 64),
+            role: Role::of_number(*byte / 64),
             rights: Rights::of_byte(*byte),
         }),
         _ => Err(TemplateRefusal::Width),

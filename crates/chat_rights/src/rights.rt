@@ -1,13 +1,15 @@
 // Sets of access rights, and how they are shown.
-ghost use Rattle.std.specs.Prelude.{◌≡◌, ◌<◌, ◌≤◌, ◌↔◌, ◌%◌, ℕ, bit_and, length};
+ghost use Rattle.std.specs.Prelude.{◌≡◌, ◌<◌, ◌↔◌, ◌%◌, ℕ, bit_and, length};
 ghost use Rattle.std.specs.Option.{SomeIff};
+ghost use Rattle.chat_rights.specs.Kinds.{rights_limit};
 ghost use Rattle.chat_rights.specs.Rights as words;
 ghost use Rattle.chat_rights.specs.Rights.{Grants};
 
 use crate::Kind;
 use std::marker::Model;
 
-/// A set of rights, seen as the number from 0 to 63 whose bits they are.
+/// A set of rights of any type of terminal, seen as the number from 0 to 63 whose bits they are. Which of them a type
+/// has, `rights_fit` of `specs/Kinds.antt` says.
 #[derive(Clone, Copy, Debug, PartialEq, Eq)]
 pub struct Rights {
     bits: u8,
@@ -15,12 +17,13 @@ pub struct Rights {
 
 impl Model for Rights {
     ghost use Rattle.std.specs.Prelude.{ℕ, ◌<◌};
+    ghost use Rattle.chat_rights.specs.Kinds.{rights_limit};
 
     ghost Value = { ℕ };
 
     ghost view = { λ r. r.bits };
 
-    ghost invariant = { λ r. r.bits < 64 };
+    ghost invariant = { λ r. r.bits < rights_limit };
 
     ghost inverse = { λ n. record { bits = n } };
 }
@@ -28,7 +31,7 @@ impl Model for Rights {
 impl Rights {
     /// The rights of these bits: none above 63.
     pub fn from_bits(bits: u64) -> Option<Rights>
-        ensures { SomeIff result (bits ≤ 63) bits }
+        ensures { SomeIff result (bits < rights_limit) bits }
     {
         if bits <= 63 {
             Some(Rights { bits: bits as u8 })
@@ -40,7 +43,7 @@ impl Rights {
     /// The number.
     pub fn bits(&self) -> u64
         ensures number { result ≡ self.now }
-        ensures within { self.now < 64 }
+        ensures within { self.now < rights_limit }
     {
         self.bits as u64
     }

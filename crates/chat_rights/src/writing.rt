@@ -1,20 +1,9 @@
 // The one content of a template.
-ghost use Rattle.std.specs.Prelude.{◌≡◌, ◌<◌};
+ghost use Rattle.std.specs.Prelude.{◌≡◌, IsTrue};
+ghost use Rattle.chat_rights.specs.Kinds.{rights_fit};
 ghost use Rattle.chat_rights.specs.Template as words;
 
-use crate::{Kind, Role, Template};
-
-fn role_number(role: Role) -> u8
-    ensures number { result ≡ words.role_number role }
-    ensures small { result < 4 }
-{
-    match role {
-        Role::Terminal => 0,
-        Role::Foreign => 1,
-        Role::Domestic => 2,
-        Role::Cvca => 3,
-    }
-}
+use crate::{Kind, Template};
 
 /// The content of the template's object 7F4C.
 ///
@@ -22,9 +11,9 @@ fn role_number(role: Role) -> u8
 /// the rights in bits 5 to 0.
 pub fn put_template(template: Template) -> [u8; 14]
     ensures text { result ≡ words.template_text template }
-    ensures legal { template.rights < 64 }
+    ensures fit { IsTrue (rights_fit template.kind template.rights) }
 {
-    let byte = 64 * role_number(template.role) + template.rights.bits() as u8;
+    let byte = 64 * template.role.number() + template.rights.bits() as u8;
     match template.kind {
         Kind::Inspection => [
             0x06, 0x09, 0x04, 0x00, 0x7f, 0x00, 0x07, 0x03, 0x01, 0x02, 0x01, 0x53, 0x01, byte,

@@ -7,7 +7,8 @@ use Rattle.eac_base.specs.Bytes.{is_empty}
 use Rattle.tlv_core.specs.Object.{object, tag_bytes, length_bytes}
 use Rattle.cv_dates.specs.Calendar.{date_of}
 use Rattle.chat_rights.specs.declared.Template.{Template}
-use Rattle.chat_rights.specs.Template.{template_text, read_template, identifier_of, template_byte}
+use Rattle.chat_rights.specs.Kinds.{identifier_of, rights_fit}
+use Rattle.chat_rights.specs.Template.{template_text, read_template, template_byte}
 use Rattle.chat_rights.specs.declared.Kind.{Kind}
 use Rattle.chat_rights.specs.declared.Kind.TheVariants.{Inspection}
 use Rattle.signature_provider.specs.declared.key.Key.{Key}
@@ -46,7 +47,7 @@ template_short Inspection byte = omega arith
 template_step : (c : List ℕ) (t : Template) (part : Part) (f : Found) → expected 0x7f4c part ≡ Ok f → f.content.bytes ≡ c → read_template c ≡ Ok t → template_in part ≡ Ok (t, f.rest)
 template_step c t part f e s r = rw (e, s, r) refl
 
-template_read : (t : Template) (more : List ℕ) (part : Part) → t.rights < 64 → part.bytes ≡ object 0x7f4c (template_text t) ++ more → ReadAs (template_in part) t more
+template_read : (t : Template) (more : List ℕ) (part : Part) → IsTrue (rights_fit t.kind t.rights) → part.bytes ≡ object 0x7f4c (template_text t) ++ more → ReadAs (template_in part) t more
 template_read t more part h e =
     let o = opened 0x7f4c (template_text t) more part refl (template_short t.kind (template_byte t)) e in
     record { rest = o.found.rest; is_read = template_step (template_text t) t part o.found o.is_found o.content_is (template_again t h); rest_is = o.rest_is }

@@ -1,5 +1,5 @@
 -- References, dates and templates that were read stand there.
-use Rattle.std.proofs.Common.{◌≡◌, ℕ, ◌-◌, ◌<◌, ◌≤◌, Bool, true, false, leb, List, ◌++◌, length, Result, Ok, refl, ap, ◌∙◌, arith}
+use Rattle.std.proofs.Common.{◌≡◌, ℕ, ◌-◌, ◌≤◌, Bool, true, false, leb, List, ◌++◌, length, Result, Ok, refl, ap, ◌∙◌, arith}
 use Rattle.std.specs.Prelude.{IsTrue}
 use Rattle.std.proofs.lemmas.List.{length-take}
 use Rattle.std.proofs.lemmas.Bool.{leb-true}
@@ -10,6 +10,7 @@ use Rattle.holder_reference.specs.Reference.{is_reference, read_reference, has_c
 use Rattle.holder_reference.specs.declared.refusal.RefRefusal.{RefRefusal}
 use Rattle.holder_reference.specs.declared.refusal.RefRefusal.TheVariants.{Length, Country, Mnemonic, Sequence}
 use Rattle.chat_rights.specs.declared.Template.{Template}
+use Rattle.chat_rights.specs.Kinds.{rights_fit}
 use Rattle.chat_rights.specs.Template.{read_template, template_text}
 use Rattle.chat_rights.proofs.Templates.{template_stands}
 use Rattle.cv_dates.specs.Calendar.{date_of, read_date, last_day}
@@ -82,7 +83,7 @@ date_stands tag part d rest b e =
     le_along : (x y : ℕ) → x ≡ y → x ≤ last_day → y ≤ last_day
     le_along x y q h = rw (← q) h
 
-pub template_there : (part : Part) (t : Template) (rest : Part) → AreBytes part.bytes → template_in part ≡ Ok (t, rest) → (t.rights < 64) × ReadThere 0x7f4c part (template_text t) rest
+pub template_there : (part : Part) (t : Template) (rest : Part) → AreBytes part.bytes → template_in part ≡ Ok (t, rest) → IsTrue (rights_fit t.kind t.rights) × ReadThere 0x7f4c part (template_text t) rest
 template_there part t rest b e =
     let o = bind_ok (expected 0x7f4c part) _ (t, rest) e in
     let v = bind_ok (refused_as _ (read_template o.0.content.bytes)) _ (t, rest) o.2 in
@@ -91,7 +92,7 @@ template_there part t rest b e =
     let s = stood 0x7f4c part o.0 b o.1 in
     let is = template_stands v.0 o.0.content.bytes s.content_bytes read in
     let value : v.0 ≡ t = ap (λ (p : Template × Part). p.0) pair in
-    (fits_along v.0 t value is.rights_fit, there_of 0x7f4c part o.0 (template_text t) rest s (is.spelling ∙ ap template_text value) (ap (λ (p : Template × Part). p.1) pair))
+    (fits_along v.0 t value is.fit, there_of 0x7f4c part o.0 (template_text t) rest s (is.spelling ∙ ap template_text value) (ap (λ (p : Template × Part). p.1) pair))
   where
-    fits_along : (u w : Template) → u ≡ w → u.rights < 64 → w.rights < 64
+    fits_along : (u w : Template) → u ≡ w → IsTrue (rights_fit u.kind u.rights) → IsTrue (rights_fit w.kind w.rights)
     fits_along u w q h = rw (← q) h

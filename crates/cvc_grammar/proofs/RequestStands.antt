@@ -119,6 +119,13 @@ bare_there part outer r bytes e =
       inner = signed.legal;
     })
 
+-- What the parts are that were read.
+pub body_stands : (part : Part) (b : RequestBody) → AreBytes part.bytes → request_body_in part ≡ Ok b → part.bytes ≡ request_body_content b
+body_stands part b bytes e = let there = body_there part b bytes e in there.text
+
+pub bare_stands : (part : Part) (outer : Option Outer) (r : Request) → AreBytes part.bytes → request_in part outer ≡ Ok r → part.bytes ≡ request_body_text r.body ++ signature_object r.inner
+bare_stands part outer r bytes e = let there = bare_there part outer r bytes e in there.text
+
 -- ---- the whole request
 
 object_there : (part : Part) (f : Found) → AreBytes part.bytes → object_in part ≡ Ok f → Stood f.tag part f

@@ -22,12 +22,12 @@ front_of bytes xs rest e =
     ap (λ (v : List ℕ). take (length v - length rest) v) e ∙ take_at xs rest (length (xs ++ rest) - length rest) (omega (arith, length-append xs rest))
 
 -- What is left of an object's part before the rest is the whole object.
-pub whole_object : (part content rest : Part) (front : List ℕ) → AreBytes part.bytes
-    → (let f : Result Found CvcRefusal = Ok (record { tag = 0x7f4e; content = content; rest = rest }) in expected 0x7f4e part ≡ f)
-    → front ≡ take (length part.bytes - length rest.bytes) part.bytes → front ≡ object 0x7f4e content.bytes
-whole_object part content rest front b e f =
-    let s = stood 0x7f4e part (record { tag = 0x7f4e; content = content; rest = rest }) b e in
-    f ∙ front_of part.bytes (object 0x7f4e content.bytes) rest.bytes s.text
+pub whole_object : (tag : ℕ) (part content rest : Part) (front : List ℕ) → AreBytes part.bytes
+    → (let f : Result Found CvcRefusal = Ok (record { tag = tag; content = content; rest = rest }) in expected tag part ≡ f)
+    → front ≡ take (length part.bytes - length rest.bytes) part.bytes → front ≡ object tag content.bytes
+whole_object tag part content rest front b e f =
+    let s = stood tag part (record { tag = tag; content = content; rest = rest }) b e in
+    f ∙ front_of part.bytes (object tag content.bytes) rest.bytes s.text
 
 pub view_of : (bytes : List ℕ) (r : Result CertView CvcRefusal) → AreBytes bytes → Answers seen_cert (λ e. Some e) r (read_cert bytes)
     → IfOk r (λ v. v.whole.now ≡ bytes) → IfOk r (λ v. v.body.now ≡ body_text (seen_cert v).body) → IfOk r (λ v. IsViewOf bytes v)

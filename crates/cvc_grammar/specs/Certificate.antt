@@ -1,10 +1,11 @@
 -- Card-verifiable certificates: the one text of each (BSI TR-03110-3, CV certificates, certificate profile). The limits in
 -- bytes are this project's own.
-use Rattle.std.specs.Prelude.{◌≡◌, ℕ, ◌<◌, ◌≤◌, List, [], ◌∷◌, ◌++◌, length, Bool, ◌&&◌, IsTrue, Option, Some, None}
+use Rattle.std.specs.Prelude.{◌≡◌, ℕ, ◌≤◌, List, [], ◌∷◌, ◌++◌, length, Bool, ◌&&◌, IsTrue, Option, Some, None}
 use Rattle.eac_base.specs.Bytes.{is_within}
 use Rattle.tlv_core.specs.Object.{object}
 use Rattle.holder_reference.specs.Reference.{is_reference}
 use Rattle.cv_dates.specs.Calendar.{date_of, last_day}
+use Rattle.chat_rights.specs.Kinds.{rights_fit}
 use Rattle.chat_rights.specs.Template.{template_text}
 use Rattle.signature_provider.specs.Key.{key_object, is_key, key_fits}
 use Rattle.cvc_grammar.specs.declared.certificate.CertBody.{CertBody}
@@ -53,7 +54,7 @@ is_key_of_body b = is_key b.key && key_fits b.key
 pub record HasLegalFields (b : CertBody) : Type 0 where
   pub authority : IsTrue (is_reference b.authority)
   pub holder : IsTrue (is_reference b.holder)
-  pub rights : b.template.rights < 64
+  pub rights : IsTrue (rights_fit b.template.kind b.template.rights)
   pub from : b.from ≤ last_day
   pub until : b.until ≤ last_day
 

@@ -1,6 +1,6 @@
 -- What the code has in its hands, as the definitions speak of it: parts of the input, keys and certificates that lie in
 -- it, answers that may want memory.
-use Rattle.std.specs.Prelude.{◌≡◌, ℕ, ◌+◌, List, length, Option, Some, None, Result, option_map}
+use Rattle.std.specs.Prelude.{◌≡◌, ℕ, ◌+◌, List, length, Option, Some, None, Result, Err, option_map}
 use Rattle.eac_base.specs.Answers.{Answers}
 use Rattle.signature_provider.specs.declared.key.Key.{Key}
 use Rattle.cvc_grammar.specs.declared.piece.Piece.{Piece}
@@ -60,6 +60,10 @@ pub record IsViewOf (bytes : List ℕ) (v : CertView) : Type 0 where
   pub cert : IsCert (seen_cert v) bytes
   pub whole : v.whole.now ≡ bytes
   pub body : v.body.now ≡ body_text (seen_cert v).body
+
+-- A refusal of the bytes is answered as that refusal, whatever memory there is.
+abbrev pub RefusedFirst : {X Y : Type 0} → Step X → Result Y ReadCvc → Type 0
+RefusedFirst said result = (e : CvcRefusal) → said ≡ Err e → result ≡ Err (reads.Refused e)
 
 -- A refusal other than for want of memory.
 abbrev pub refused_cvc : ReadCvc → Option CvcRefusal

@@ -3,7 +3,7 @@ ghost use Rattle.std.specs.Prelude.{◌≡◌, Ok, IfOk, option_map};
 ghost use Rattle.eac_base.specs.Answers.{Answers};
 ghost use Rattle.cvc_grammar.specs.ReadingOrder as order;
 ghost use Rattle.cvc_grammar.specs.Certificate.{IsCert};
-ghost use Rattle.cvc_grammar.specs.Views.{seen_key, seen_cert, refused_cvc};
+ghost use Rattle.cvc_grammar.specs.Views.{seen_key, seen_cert, refused_cvc, RefusedFirst};
 ghost use Rattle.cvc_grammar.specs.declared.certificate.Cert.{Cert};
 
 use crate::key_view::KeyParts;
@@ -33,41 +33,42 @@ pub fn own_extensions(alloc: Global, extensions: Option<&[u8]>) -> Result<Option
     }
 }
 
-fn own_cert(alloc: Global, view: &CertView) -> Result<Cert, NoMemory>
-    ensures { IfOk result (λ c. c ≡ seen_cert view.now) }
-{
-    let key = own_key(
-        alloc,
-        KeyParts {
-            key: view.key,
-            cofactor: view.cofactor,
-        },
-    )?;
-    let extensions = own_extensions(alloc, view.extensions)?;
-    let signature = Octets::from_slice(alloc, view.signature)?;
-    Ok(Cert {
-        body: CertBody {
-            authority: view.authority,
-            key,
-            holder: view.holder,
-            template: view.template,
-            from: view.from,
-            until: view.until,
-            extensions,
-        },
-        signature,
-    })
+impl CertView<'_> {
+    /// The certificate with bytes of its own.
+    pub fn to_cert(&self, alloc: Global) -> Result<Cert, NoMemory>
+        ensures { IfOk result (λ c. c ≡ seen_cert self.now) }
+    {
+        let key = own_key(
+            alloc,
+            KeyParts {
+                key: self.key,
+                cofactor: self.cofactor,
+            },
+        )?;
+        let extensions = own_extensions(alloc, self.extensions)?;
+        let signature = Octets::from_slice(alloc, self.signature)?;
+        Ok(Cert {
+            body: CertBody {
+                authority: self.authority,
+                key,
+                holder: self.holder,
+                template: self.template,
+                from: self.from,
+                until: self.until,
+                extensions,
+            },
+            signature,
+        })
+    }
 }
 
 fn own_view(alloc: Global, bytes: &[u8]) -> Result<Cert, ReadCvc>
-    ensures { Answers (λ c. c) refused_cvc result (order.read_cert bytes.now) }
+    ensures exact { Answers (λ c. c) refused_cvc result (order.read_cert bytes.now) }
+    ensures refused { RefusedFirst (order.read_cert bytes.now) result }
 {
     match view_cert(bytes) {
         Err(e) => Err(ReadCvc::Refused(e)),
-        Ok(view) => match own_cert(alloc, &view) {
-            Ok(cert) => Ok(cert),
-            Err(_) => Err(ReadCvc::NoMemory),
-        },
+        Ok(view) => Ok(view.to_cert(alloc)?),
     }
 }
 
@@ -77,6 +78,7 @@ pub fn read_cert(alloc: Global, bytes: &[u8]) -> Result<Cert, ReadCvc>
     ensures exact { Answers (λ c. c) refused_cvc result (order.read_cert bytes.now) }
     ensures found { IfOk result (λ c. IsCert c bytes.now) }
     ensures only { (c : Cert) → IsCert c bytes.now → Answers (λ d. d) refused_cvc result (Ok c) }
+    ensures refused { RefusedFirst (order.read_cert bytes.now) result }
 {
     are_bytes(bytes);
     own_view(alloc, bytes)

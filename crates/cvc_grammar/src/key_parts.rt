@@ -104,7 +104,7 @@ pub fn is_key(parts: KeyParts) -> bool
 {
     let key = parts.key;
     is_algorithm(key.algorithm)
-        && if key.algorithm.arc == 2 {
+        && if key.algorithm.is_elliptic() {
             is_elliptic_key(key.domain, key.point, parts.cofactor)
         } else {
             is_rsa_key(key.domain, key.point, parts.cofactor)

@@ -56,7 +56,7 @@ fn elliptic<'a>(algorithm: Algorithm, values: &'a [u8]) -> Option<KeyParts<'a>>
 fn spelt_key<'a>(algorithm: Algorithm, values: &'a [u8]) -> Option<KeyParts<'a>>
     ensures { option_map seen_key result ≡ order.spelt_key algorithm values.now }
 {
-    if algorithm.arc == 2 {
+    if algorithm.is_elliptic() {
         elliptic(algorithm, values)
     } else {
         Some(KeyParts {

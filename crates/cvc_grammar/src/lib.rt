@@ -3,8 +3,9 @@
 //!
 //! A certificate is a row of data objects that ends with a signature. `view_cert` reads one where it lies and takes no
 //! memory, `read_cert` copies what it read. Both read the whole input in one order, and answer the first step that fails
-//! with the place of its object in the input. `write_body` writes what a signature is over, `write_cert` the whole. A
-//! request is read by `read_request` and written by three calls, one for each thing that is signed or sent.
+//! with the place of its object in the input. `write_body` writes what a signature is over, `write_cert` the whole.
+//! `view_request` and `read_request` do so for requests, whose view also shows what each of its signatures is over; they
+//! are written by three calls, one for each thing that is signed or sent.
 //!
 //! A certificate and a request have one text, and a text is of one of them; what was written is read, and what was read
 //! is written: the functions of `laws` say so.
@@ -36,6 +37,7 @@ pub use cert_view::view_cert;
 pub use cert_writing::{write_body, write_cert};
 pub use certificate::{Cert, CertBody, CertView};
 pub use refusal::{CvcRefusal, ObjectFault, ReadCvc};
-pub use request::{Outer, Request, RequestBody};
+pub use request::{Outer, OuterView, Request, RequestBody, RequestView};
 pub use request_copy::read_request;
+pub use request_view::view_request;
 pub use request_writing::{write_request, write_request_body, write_signed_part};

@@ -23,7 +23,7 @@ fn push_key_values(out: &mut Octets, key: &Key) -> Result<(), NoMemory>
     requires { length key.now.point < 65536 }
     ensures { OnOk result (out.new ≡ out.old ++ keys.key_values key.now) }
 {
-    if key.algorithm.arc == 2 {
+    if key.algorithm.is_elliptic() {
         out.push_all(key.domain.as_slice())?;
         push_object(out, 0x86, key.point.as_slice())?;
         out.push_all(key.cofactor.as_slice())

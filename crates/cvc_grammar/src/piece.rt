@@ -1,9 +1,11 @@
 // Parts of the input, each with its place, and the objects in them.
-ghost use Rattle.std.specs.Prelude.{◌<◌, ◌≤◌, ◌^◌, IfOk};
+ghost use Rattle.std.specs.Prelude.{◌≡◌, ◌<◌, ◌≤◌, ◌^◌, IfOk};
+ghost use Rattle.tlv_core.specs.Object.{object};
 ghost use Rattle.cvc_grammar.specs.ReadingOrder as order;
 ghost use Rattle.cvc_grammar.specs.Views.{part_of, end_of, Reads};
 
 use crate::{CvcRefusal, ObjectFault};
+use eac_base::are_bytes;
 use tlv_core::{Tag, next_object};
 
 /// A part of the input, and the place of its first byte there.
@@ -57,6 +59,23 @@ pub fn expected<'a>(tag: Tag, part: Piece<'a>) -> Result<(Piece<'a>, Piece<'a>),
         });
     }
     Ok((content, rest))
+}
+
+/// The content of the object at the front, which has to have this tag, the whole object and the rest.
+pub fn whole_object<'a>(
+    tag: Tag,
+    part: Piece<'a>,
+) -> Result<(Piece<'a>, &'a [u8], Piece<'a>), CvcRefusal>
+    requires { end_of part < 2 ^ 32 }
+    ensures exact { Reads (λ o. record { tag = tag; content = part_of o.0; rest = part_of o.2 }) result (order.expected tag (part_of part.entry)) }
+    ensures whole { IfOk result (λ o. o.1.now ≡ object tag o.0.bytes.now) }
+    ensures content { IfOk result (λ o. end_of o.0 ≤ end_of part.entry) }
+    ensures rest { IfOk result (λ o. end_of o.2 ≤ end_of part.entry) }
+{
+    let (content, rest) = expected(tag, part)?;
+    are_bytes(part.bytes);
+    let (whole, _) = part.bytes.split_at(part.bytes.len() - rest.bytes.len());
+    Ok((content, whole, rest))
 }
 
 pub fn nothing_in(part: Piece) -> Result<(), CvcRefusal>

@@ -4,7 +4,10 @@ ghost use Rattle.cvc_grammar.specs.ReadingOrder.{refusal_number};
 
 use chat_rights::TemplateRefusal;
 use cv_dates::DateRefusal;
+use eac_base::NoMemory;
 use holder_reference::RefRefusal;
+use std::error::Error;
+use std::fmt;
 use tlv_core::TlvRefusal;
 
 /// Why a part of the input doesn't begin with the object that is due there.
@@ -65,3 +68,53 @@ pub enum ReadCvc {
     /// Memory is wanting for the copy.
     NoMemory,
 }
+
+impl From<NoMemory> for ReadCvc {
+    ghost use Rattle.cvc_grammar.specs.declared.refusal.ReadCvc.{ReadCvc};
+
+    ghost from_gives = { λ _ refusal. refusal ≡ ReadCvc.NoMemory };
+
+    fn from(_: NoMemory) -> Self {
+        ReadCvc::NoMemory
+    }
+}
+
+impl fmt::Display for ObjectFault {
+    fn fmt<W: fmt::Write>(&self, f: &mut fmt::Formatter<W>) -> fmt::Result {
+        f.write_str(match self {
+            ObjectFault::Tlv(_) => "no object can be read",
+            ObjectFault::OtherTag => "another object stands in its place",
+            ObjectFault::Size => "a signature has 1 to 512 bytes",
+        })
+    }
+}
+
+impl fmt::Display for CvcRefusal {
+    fn fmt<W: fmt::Write>(&self, f: &mut fmt::Formatter<W>) -> fmt::Result {
+        match self {
+            CvcRefusal::TooLong => f.write_str("too many bytes"),
+            CvcRefusal::Object { offset, fault } => write!(f, "at byte {offset}: {fault}"),
+            CvcRefusal::Profile => f.write_str("the profile isn't 00"),
+            CvcRefusal::Key => f.write_str("the key isn't one, or has more than 1,024 bytes"),
+            CvcRefusal::Reference(_) => f.write_str("a reference isn't one"),
+            CvcRefusal::Template(_) => f.write_str("the authorization template isn't one"),
+            CvcRefusal::Date(_) => f.write_str("a date isn't one"),
+            CvcRefusal::Trailing => f.write_str("bytes follow the last object"),
+        }
+    }
+}
+
+impl fmt::Display for ReadCvc {
+    fn fmt<W: fmt::Write>(&self, f: &mut fmt::Formatter<W>) -> fmt::Result {
+        match self {
+            ReadCvc::Refused(refusal) => write!(f, "{refusal}"),
+            ReadCvc::NoMemory => f.write_str("out of memory"),
+        }
+    }
+}
+
+impl Error for ObjectFault {}
+
+impl Error for CvcRefusal {}
+
+impl Error for ReadCvc {}

@@ -4,9 +4,8 @@ ghost use Rattle.tlv_core.specs.Object.{object};
 ghost use Rattle.cvc_grammar.specs.ReadingOrder as order;
 ghost use Rattle.cvc_grammar.specs.Views.{part_of, end_of, Reads};
 
-use crate::piece::{Piece, expected, nothing_in};
+use crate::piece::{Piece, expected, nothing_in, whole_object};
 use crate::{CvcRefusal, ObjectFault};
-use eac_base::are_bytes;
 
 /// The signature and the rest.
 pub fn signature_in<'a>(part: Piece<'a>) -> Result<(&'a [u8], Piece<'a>), CvcRefusal>
@@ -25,20 +24,6 @@ pub fn signature_in<'a>(part: Piece<'a>) -> Result<(&'a [u8], Piece<'a>), CvcRef
     Ok((content.bytes, rest))
 }
 
-/// The body's content, the whole body object and the rest.
-fn body_object<'a>(part: Piece<'a>) -> Result<(Piece<'a>, &'a [u8], Piece<'a>), CvcRefusal>
-    requires { end_of part < 2 ^ 32 }
-    ensures exact { Reads (λ o. record { tag = 0x7f4e; content = part_of o.0; rest = part_of o.2 }) result (order.expected 0x7f4e (part_of part.entry)) }
-    ensures whole { IfOk result (λ o. o.1.now ≡ object 0x7f4e o.0.bytes.now) }
-    ensures content { IfOk result (λ o. end_of o.0 ≤ end_of part.entry) }
-    ensures rest { IfOk result (λ o. end_of o.2 ≤ end_of part.entry) }
-{
-    let (content, rest) = expected(0x7f4e, part)?;
-    are_bytes(part.bytes);
-    let (whole, _) = part.bytes.split_at(part.bytes.len() - rest.bytes.len());
-    Ok((content, whole, rest))
-}
-
 /// The body's content, the whole body object and the signature, with nothing behind it.
 pub fn signed_in<'a>(part: Piece<'a>) -> Result<(Piece<'a>, &'a [u8], &'a [u8]), CvcRefusal>
     requires { end_of part < 2 ^ 32 }
@@ -46,7 +31,7 @@ pub fn signed_in<'a>(part: Piece<'a>) -> Result<(Piece<'a>, &'a [u8], &'a [u8]),
     ensures whole { IfOk result (λ o. o.1.now ≡ object 0x7f4e o.0.bytes.now) }
     ensures content { IfOk result (λ o. end_of o.0 ≤ end_of part.entry) }
 {
-    let (body, whole, rest) = body_object(part)?;
+    let (body, whole, rest) = whole_object(0x7f4e, part)?;
     let (signature, rest) = signature_in(rest)?;
     nothing_in(rest)?;
     Ok((body, whole, signature))

@@ -2,8 +2,8 @@
 use super::texts::{AUTHENTICATED, REQUEST, WITHOUT_AUTHORITY, WITHOUT_DOMAIN};
 use super::{no_object, other_tag};
 use crate::{
-    CvcRefusal, ObjectFault, ReadCvc, read_request, write_request, write_request_body,
-    write_signed_part,
+    CvcRefusal, ObjectFault, ReadCvc, read_request, view_request, write_request,
+    write_request_body, write_signed_part,
 };
 use eac_base::Octets;
 use std::alloc::Global;
@@ -31,6 +31,27 @@ fn a_request_has_its_parts(rt: HostRuntime) -> Result<(), Fail> {
     assert_eq!(rt; outer.reference.as_slice(), b"DECVCA00001".as_slice());
     assert_eq!(rt; outer.signature.len(), 64);
     Ok(())
+}
+
+/// What each signature is over, where it lies.
+#[test]
+fn a_view_shows_what_is_signed(rt: HostRuntime) {
+    let (Ok(bare), Ok(view)) = (view_request(REQUEST), view_request(AUTHENTICATED)) else {
+        assert!(rt; false);
+        return;
+    };
+    assert!(rt; bare.outer.is_none());
+    assert_eq!(rt; bare.bare, REQUEST.as_slice());
+    assert_eq!(rt; view.whole, AUTHENTICATED.as_slice());
+    assert_eq!(rt; view.bare, REQUEST.as_slice());
+    assert_eq!(rt; view.body, &REQUEST.as_slice()[4..83]);
+    assert_eq!(rt; view.inner.len(), 64);
+    let Some(outer) = view.outer else {
+        assert!(rt; false);
+        return;
+    };
+    assert_eq!(rt; outer.named, b"\x42\x0bDECVCA00001".as_slice());
+    assert_eq!(rt; outer.signature.len(), 64);
 }
 
 /// A request with its whole body object and with what an outer signature is over, but for the reference.

@@ -6,7 +6,7 @@ use Rattle.cvc_grammar.proofs.Views.{cert_of}
 use Rattle.cvc_grammar.proofs.cert_copy.read_cert.Goals as goal
 
 pub returns-clause-found : goal.returns-clause-found
-returns-clause-found c = cert_of c.args.bytes.now c.own_view.result c.are_bytes.ensures c.own_view.ensures
+returns-clause-found c = cert_of c.args.bytes.now c.own_view.result c.are_bytes.ensures c.own_view.ensures.exact
 
 pub returns-clause-only : goal.returns-clause-only
-returns-clause-only c d is = subst (λ s. Answers (λ x. x) refused_cvc c.own_view.result s) (read_after_write d c.args.bytes.now is) c.own_view.ensures
+returns-clause-only c d is = subst (λ s. Answers (λ x. x) refused_cvc c.own_view.result s) (read_after_write d c.args.bytes.now is) c.own_view.ensures.exact
