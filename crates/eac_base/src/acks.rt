@@ -1,5 +1,5 @@
 // Acknowledged imports.
-ghost use Rattle.std.specs.Prelude.{◌≡◌, ◌≤◌, ◌+◌, ℕ, List, [], ◌∷◌, ◌++◌, length, OnOk, OnErr, slice_get};
+ghost use Rattle.std.specs.Prelude.{◌≡◌, ◌≤◌, ◌+◌, [], ◌∷◌, ◌++◌, length, OnOk, OnErr, slice_get};
 ghost use Rattle.std.specs.Option.{option_copied};
 
 use crate::NoMemory;

@@ -1,5 +1,5 @@
 // A connection in memory.
-ghost use Rattle.std.specs.Prelude.{◌≡◌, Some, IfOk, IsErr, ◌↔◌, ◌⊎◌, ℕ, ◌+◌, ◌<◌, ◌≤◌, length, min};
+ghost use Rattle.std.specs.Prelude.{◌≡◌, Some, IfOk, IsErr, ◌↔◌, ◌⊎◌, ◌+◌, ◌<◌, ◌≤◌, length, min};
 ghost use Rattle.std.specs.Io.{ReadsAtMost, WritesAtMost};
 ghost use Rattle.std.specs.Io.KnownBytes.{ReadConsumes, WriteAppends};
 ghost use Rattle.eac_base.specs.Causes.{HasCause};

@@ -1,8 +1,7 @@
 // A listener in memory.
-ghost use Rattle.std.specs.Prelude.{◌≡◌, ◌≤◌, ℕ, ◌+◌, [], ◌∷◌, ◌++◌, map, Some, true, OnOk, OnErr, IfOk, IsErr, ◌⊎◌, ◌↔◌, length};
+ghost use Rattle.std.specs.Prelude.{◌≡◌, ◌≤◌, ◌+◌, [], ◌∷◌, ◌++◌, map, Some, true, OnOk, OnErr, IfOk, IsErr, ◌⊎◌, ◌↔◌};
 ghost use Rattle.eac_base.specs.Causes.{HasCause};
 ghost use Rattle.eac_base.specs.Connections.{input_of, finished_of, is_fresh, after_accept, after_finish};
-ghost use Rattle.eac_base.specs.Listening.{AcceptsFirst, AppendsFinished};
 ghost use Rattle.eac_base.specs.Planned.{IsPlanned};
 
 use crate::plan::counted;

@@ -1,5 +1,5 @@
 // Readers and writers of std, the trusted edge.
-ghost use Rattle.std.specs.Prelude.{◌≡◌, ℕ, List, None, take, IfOk, OnErr, ◌<◌, length};
+ghost use Rattle.std.specs.Prelude.{◌≡◌, None};
 ghost use Rattle.std.specs.Io.{ReadsAtMost, WritesAtMost};
 ghost use Rattle.std.specs.Io.KnownBytes.{ReadConsumes, WriteAppends};
 

@@ -73,6 +73,11 @@ impl TcpListening {
             faults: 0,
         })
     }
+
+    #[cfg(test)]
+    pub(crate) fn port(&self) -> io::Result<u16> {
+        Ok(self.listener.local_addr()?.port())
+    }
 }
 
 impl Listener for TcpListening {

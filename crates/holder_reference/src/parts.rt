@@ -1,5 +1,5 @@
 // The tests on the parts of a reference, byte by byte.
-ghost use Rattle.std.specs.Prelude.{◌≡◌, ◌||◌, take};
+ghost use Rattle.std.specs.Prelude.{◌≡◌, ◌||◌};
 ghost use Rattle.std.specs.List.{list_all};
 ghost use Rattle.eac_base.specs.Text.{is_digit};
 ghost use Rattle.holder_reference.specs.Reference as text;

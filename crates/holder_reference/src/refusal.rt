@@ -1,6 +1,9 @@
 // Why bytes are no reference.
 ghost use Rattle.std.specs.Prelude.{◌≡◌};
 
+use std::error::Error;
+use std::fmt;
+
 /// The condition that bytes break first, in the order in which they are tested.
 #[derive(Clone, Copy, Debug, PartialEq, Eq)]
 pub enum RefRefusal {
@@ -29,3 +32,16 @@ impl RefRefusal {
         }
     }
 }
+
+impl fmt::Display for RefRefusal {
+    fn fmt<W: fmt::Write>(&self, f: &mut fmt::Formatter<W>) -> fmt::Result {
+        f.write_str(match self {
+            RefRefusal::Length => "the length is out of bounds",
+            RefRefusal::Country => "the country isn't two capital letters",
+            RefRefusal::Mnemonic => "a byte of the mnemonic isn't printed",
+            RefRefusal::Sequence => "the sequence isn't five digits or capital letters",
+        })
+    }
+}
+
+impl Error for RefRefusal {}

@@ -22,6 +22,8 @@ mod tests;
 
 pub use head::{Head, object_head};
 pub use reading::next_object;
+use std::error::Error;
+use std::fmt;
 
 /// A tag of one byte, or of two with the first one as the higher.
 pub type Tag = u16;
@@ -52,3 +54,16 @@ impl TlvRefusal {
         }
     }
 }
+
+impl fmt::Display for TlvRefusal {
+    fn fmt<W: fmt::Write>(&self, f: &mut fmt::Formatter<W>) -> fmt::Result {
+        f.write_str(match self {
+            TlvRefusal::Truncated => "the input ends within an object",
+            TlvRefusal::BadTag => "a tag's second byte isn't 1F to 7F",
+            TlvRefusal::BadLength => "a length isn't in its shortest definite form",
+            TlvRefusal::LongLength => "a length has more than two bytes",
+        })
+    }
+}
+
+impl Error for TlvRefusal {}
