@@ -14,8 +14,8 @@ use crate::refusal::DateRefusal;
 ///
 /// # Errors
 ///
-/// The first of these: [`DateRefusal::Length`] where there aren't six bytes, [`DateRefusal::Digit`] where one is above 9,
-/// [`DateRefusal::NoSuchDay`] where the calendar doesn't have the date.
+/// The first of these: [`DateRefusal::Length`] where there aren't six bytes, [`DateRefusal::Digit`] where one is above
+/// 9, [`DateRefusal::NoSuchDay`] where the calendar doesn't have the date.
 pub fn read_date(bytes: &[u8]) -> Result<Day, DateRefusal>
     ensures exact { Answers (λ d. d) (λ e. Some e) result (words.read_date bytes.now) }
     ensures found { IfOk result (λ day. IsDateOf day bytes.now) }

@@ -1,8 +1,8 @@
 //! Days of card-verifiable certificates: the effective and the expiration date.
 //!
 //! A date is six digits YYMMDD of the years 2000 to 2099 (BSI TR-03110-3, certificate effective date and certificate
-//! expiration date). In a certificate each digit is a byte 0 to 9, in a text it is an ASCII digit. A [`Day`] is the plain
-//! copied value behind both: the number of days since 2000-01-01.
+//! expiration date). In a certificate each digit is a byte 0 to 9, in a text it is an ASCII digit. A [`Day`] is the
+//! plain copied value behind both: the number of days since 2000-01-01.
 //!
 //! Each reader gives the day exactly where the digits name one of the calendar, and else the first test that fails.
 //! Each day has one text, so that reading and writing undo each other, and days compare as their texts do.

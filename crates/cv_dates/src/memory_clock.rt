@@ -47,7 +47,8 @@ impl DayClock for MemoryClock {
     ghost faults = { λ c. c.faults };
 
     fn today(&mut self) -> Result<Day, Failed>
-        ensures day { GivesDay (Some (replicate self.old.given self.old.day)) (Some (replicate self.new.given self.new.day)) result }
+        ensures day { GivesDay (Some (replicate self.old.given self.old.day))
+            (Some (replicate self.new.given self.new.day)) result }
         ensures cause { HasCause self.old.faults self.new.faults result }
         ensures same { IfOk result (λ day. day ≡ self.old.day) }
         // It fails exactly where its plan says, or where it gave 2^64 - 1 days.

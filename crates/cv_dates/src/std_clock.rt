@@ -12,8 +12,8 @@ const SECONDS_A_DAY: u64 = 86_400;
 /// The days from 1970-01-01 to 2000-01-01.
 const DAYS_BEFORE_2000: u64 = 10_957;
 
-/// The UTC day of the system's clock. It counts its faults, a day outside the years 2000 to 2099 among them, and doesn't
-/// tell which days it gave.
+/// The UTC day of the system's clock. It counts its faults, a day outside the years 2000 to 2099 among them, and
+/// doesn't tell which days it gave.
 #[derive(Drop)]
 pub struct StdClock<R: Clock + Drop> {
     rt: R,

@@ -15,8 +15,8 @@ use crate::refusal::DateRefusal;
 ///
 /// # Errors
 ///
-/// The first of these: [`DateRefusal::Length`] where there aren't six bytes, [`DateRefusal::Digit`] where one is no ASCII
-/// digit, [`DateRefusal::NoSuchDay`] where the calendar doesn't have the date.
+/// The first of these: [`DateRefusal::Length`] where there aren't six bytes, [`DateRefusal::Digit`] where one is no
+/// ASCII digit, [`DateRefusal::NoSuchDay`] where the calendar doesn't have the date.
 pub fn day_from_text(text: &[u8]) -> Result<Day, DateRefusal>
     ensures exact { Answers (λ d. d) (λ e. Some e) result (words.day_from_text text.now) }
     ensures found { IfOk result (λ day. IsTextOf day text.now) }

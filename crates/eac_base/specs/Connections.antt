@@ -10,7 +10,9 @@ pub record ConnValue : Type 0 where
 
 -- nothing was read or written yet
 abbrev pub is_fresh : ConnValue → Bool
-is_fresh c = nat_eq c.source.given 0 && nat_eq c.source.calls 0 && nat_eq c.source.faults 0 && is_empty c.sink.taken && nat_eq c.sink.calls 0 && nat_eq c.sink.faults 0
+is_fresh c =
+    nat_eq c.source.given 0 && nat_eq c.source.calls 0 && nat_eq c.source.faults 0
+    && is_empty c.sink.taken && nat_eq c.sink.calls 0 && nat_eq c.sink.faults 0
 
 abbrev pub input_of : ConnValue → List ℕ
 input_of c = c.source.left

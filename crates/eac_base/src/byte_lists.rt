@@ -41,7 +41,15 @@ impl ByteLists {
         ensures kept { OnErr result (self.new ≡ self.old) }
     {
         let copy = Octets::from_slice(self.alloc, bytes)?;
-        self.lists.push(copy)?;
+        self.push_octets(copy)
+    }
+
+    /// Appends the bytes, which are moved, or nothing where memory is wanting.
+    pub fn push_octets(&mut self, list: Octets) -> Result<(), NoMemory>
+        ensures pushed { OnOk result (self.new ≡ self.old ++ list ∷ []) }
+        ensures kept { OnErr result (self.new ≡ self.old) }
+    {
+        self.lists.push(list)?;
         Ok(())
     }
 

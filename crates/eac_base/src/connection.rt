@@ -58,7 +58,7 @@ impl Source for MemoryConn {
         ensures cause { HasCause self.old.source.faults self.new.source.faults result }
         ensures plan { IsErr result ↔ IsPlanned self.old.source.plan self.old.source.calls }
         ensures most { IfOk result (λ n. n ≤ self.old.source.most) }
-        ensures cut { IfOk result (λ n. self.old.source.given < self.old.source.cut → self.old.source.given + n ≤ self.old.source.cut) }
+        ensures cut { let s = self.old.source in IfOk result (λ n. s.given < s.cut → s.given + n ≤ s.cut) }
         ensures after { self.new ≡ record self.old { source = after_read self.old.source result } }
     {
         self.source.read(into)
@@ -71,7 +71,8 @@ impl Sink for MemoryConn {
         ensures progress { IfOk result (λ n. 0 < length from.now → 0 < n) }
         ensures bytes { WriteAppends (Some self.old.sink.taken) (Some self.new.sink.taken) result from.now }
         ensures cause { HasCause self.old.sink.faults self.new.sink.faults result }
-        ensures plan { IsErr result ↔ (IsPlanned self.old.sink.plan self.old.sink.calls ⊎ ((self.old.sink.room ≡ 0) × (0 < length from.now))) }
+        ensures plan { let s = self.old.sink in
+            IsErr result ↔ (IsPlanned s.plan s.calls ⊎ ((s.room ≡ 0) × (0 < length from.now))) }
         ensures most { IfOk result (λ n. n ≡ min (length from.now) self.old.sink.room) }
         ensures after { self.new ≡ record self.old { sink = after_write self.old.sink from.now result } }
     {

@@ -29,8 +29,11 @@ pub trait Listener {
     /// [`Failed`] only where the count of faults rose in this call or stands at its last value; no connection was taken
     /// then. Without it that count stays.
     fn accept(&mut self) -> Result<Self::Conn, Failed>
-        ensures first { IfOk result (λ c. AcceptsFirst (coming self.old) (coming self.new) (Self.Conn.left c) (Self.Conn.taken c)) }
-        ensures fresh { IfOk result (λ c. (Self.Conn.faults c ≡ 0) × (Self.Conn.lost c ≡ 0) × IfSome (Self.Conn.reads c) (λ reads. reads ≡ 0)) }
+        ensures first { IfOk result (λ c.
+            AcceptsFirst (coming self.old) (coming self.new) (Self.Conn.left c) (Self.Conn.taken c)) }
+        ensures fresh { IfOk result (λ c. (Self.Conn.faults c ≡ 0)
+            × (Self.Conn.lost c ≡ 0)
+            × IfSome (Self.Conn.reads c) (λ reads. reads ≡ 0)) }
         ensures none { OnErr result (coming self.new ≡ coming self.old) }
         ensures kept { finished self.new ≡ finished self.old }
         ensures out_more { OnOk result (out self.new ≡ out self.old + 1) }
@@ -40,7 +43,8 @@ pub trait Listener {
     /// Takes a connection back. It takes no memory and can't fail.
     fn finish(&mut self, conn: Self::Conn)
         requires { 1 ≤ out self.old }
-        ensures appended { AppendsFinished (finished self.old) (finished self.new) (Self.Conn.taken conn) (Self.Conn.faults conn) (Self.Conn.lost conn) }
+        ensures appended { AppendsFinished (finished self.old) (finished self.new)
+            (Self.Conn.taken conn) (Self.Conn.faults conn) (Self.Conn.lost conn) }
         ensures kept { coming self.new ≡ coming self.old }
         ensures out_less { out self.new + 1 ≡ out self.old }
         ensures faults { faults self.new ≡ faults self.old };

@@ -30,10 +30,18 @@ impl Model for MemoryListener {
 
     ghost Value = { ListenerValue };
 
-    ghost view = { λ l. record { coming = l.coming.items; finished = l.finished.items; out = l.out; plan = l.plan; calls = l.calls; faults = l.faults } };
+    ghost view = { λ l. record {
+      coming = l.coming.items;
+      finished = l.finished.items;
+      out = l.out;
+      plan = l.plan;
+      calls = l.calls;
+      faults = l.faults;
+    } };
 
     // Each connection that is out or to come has its room among the finished ones.
-    ghost invariant = { λ l. (vec_len l.finished + l.out + deque_len l.coming ≤ vec_capacity l.finished) × (list_all is_fresh l.coming.items ≡ true) };
+    ghost invariant = { λ l. (vec_len l.finished + l.out + deque_len l.coming ≤ vec_capacity l.finished)
+        × (list_all is_fresh l.coming.items ≡ true) };
 }
 
 impl MemoryListener {

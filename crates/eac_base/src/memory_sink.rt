@@ -26,7 +26,13 @@ impl Model for MemorySink {
 
     ghost Value = { SinkValue };
 
-    ghost view = { λ s. record { taken = take s.used s.buffer.items; room = length s.buffer.items - s.used; plan = s.plan; calls = s.calls; faults = s.faults } };
+    ghost view = { λ s. record {
+      taken = take s.used s.buffer.items;
+      room = length s.buffer.items - s.used;
+      plan = s.plan;
+      calls = s.calls;
+      faults = s.faults;
+    } };
 
     ghost invariant = { λ s. s.used ≤ length s.buffer.items };
 }
@@ -76,7 +82,8 @@ impl Sink for MemorySink {
         ensures bytes { WriteAppends (Some self.old.taken) (Some self.new.taken) result from.now }
         ensures cause { HasCause self.old.faults self.new.faults result }
         // It fails exactly where its plan says, or where no room is left for a nonempty piece.
-        ensures plan { IsErr result ↔ (IsPlanned self.old.plan self.old.calls ⊎ ((self.old.room ≡ 0) × (0 < length from.now))) }
+        ensures plan { IsErr result
+            ↔ (IsPlanned self.old.plan self.old.calls ⊎ ((self.old.room ≡ 0) × (0 < length from.now))) }
         ensures most { IfOk result (λ n. n ≡ min (length from.now) self.old.room) }
         ensures after { self.new ≡ after_write self.old from.now result }
     {

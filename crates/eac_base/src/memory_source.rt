@@ -27,7 +27,15 @@ impl Model for MemorySource {
 
     ghost Value = { SourceValue };
 
-    ghost view = { λ s. record { left = drop s.at s.input; given = s.at; most = s.most; cut = s.cut; plan = s.plan; calls = s.calls; faults = s.faults } };
+    ghost view = { λ s. record {
+      left = drop s.at s.input;
+      given = s.at;
+      most = s.most;
+      cut = s.cut;
+      plan = s.plan;
+      calls = s.calls;
+      faults = s.faults;
+    } };
 
     ghost invariant = { λ s. (s.at ≤ length s.input) × (0 < s.most) };
 }
@@ -36,7 +44,15 @@ impl MemorySource {
     /// The bytes of `input`, at most `most` of them in one read, and no read from before the place `cut` to beyond it.
     pub fn new(input: Octets, most: u64, cut: u64, plan: FailPlan) -> MemorySource
         requires { 1 ≤ most }
-        ensures { result ≡ record { left = input; given = 0; most = most; cut = cut; plan = plan; calls = 0; faults = 0 } }
+        ensures { result ≡ record {
+          left = input;
+          given = 0;
+          most = most;
+          cut = cut;
+          plan = plan;
+          calls = 0;
+          faults = 0;
+        } }
     {
         MemorySource {
             input,

@@ -40,6 +40,13 @@ impl Octets {
         })
     }
 
+    /// The bytes of a vector, which is moved.
+    pub fn from_vec(bytes: Vec<u8>) -> Octets
+        ensures { result ≡ bytes.items }
+    {
+        Octets { bytes }
+    }
+
     /// A copy of the bytes.
     pub fn from_slice(alloc: Global, bytes: &[u8]) -> Result<Octets, NoMemory>
         ensures { IfOk result (λ o. o ≡ bytes.now) }

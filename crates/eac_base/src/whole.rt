@@ -19,9 +19,15 @@ const PIECE: usize = 4096;
 /// value, and without it that count stays. What was read before a refusal is gone.
 pub fn read_all<S: Source>(alloc: Global, source: &mut S, limit: u64) -> Result<Octets, ReadRefusal>
     // What was left is what is answered, and it is at most the limit.
-    ensures bytes { IfOk result (λ bytes. Consumes (S.left source.old) (S.left source.new) bytes × IsAtEnd (S.left source.new) × (length bytes ≤ limit) × TurnsAtMost (S.reads source.old) (S.reads source.new) (length bytes + 1)) }
+    ensures bytes { IfOk result (λ bytes. Consumes (S.left source.old) (S.left source.new) bytes
+        × IsAtEnd (S.left source.new)
+        × (length bytes ≤ limit)
+        × TurnsAtMost (S.reads source.old) (S.reads source.new) (length bytes + 1)) }
     // Else a front of it was read, and it is longer than the limit exactly where that is the refusal.
-    ensures front { OnErr result ((bytes : List ℕ) × Consumes (S.left source.old) (S.left source.new) bytes × (length bytes ≤ limit + 1) × (IsErrOf result ReadRefusal.TooLong ↔ (limit < length bytes)) × TurnsAtMost (S.reads source.old) (S.reads source.new) (length bytes + 1)) }
+    ensures front { OnErr result ((bytes : List ℕ) × Consumes (S.left source.old) (S.left source.new) bytes
+        × (length bytes ≤ limit + 1)
+        × (IsErrOf result ReadRefusal.TooLong ↔ (limit < length bytes))
+        × TurnsAtMost (S.reads source.old) (S.reads source.new) (length bytes + 1)) }
     ensures fault { IsErrOf result ReadRefusal.ReadFault → Rose (S.faults source.old) (S.faults source.new) }
     ensures quiet { result ≢ Err ReadRefusal.ReadFault → S.faults source.new ≡ S.faults source.old }
     ensures later { S.faults source.old ≤ S.faults source.new }
@@ -52,8 +58,8 @@ pub fn read_all<S: Source>(alloc: Global, source: &mut S, limit: u64) -> Result<
 ///
 /// # Errors
 ///
-/// [`Failed`] only where the sink's count of failed writes rose in this call or stands at its last value, and without it
-/// that count stays. A front of the bytes went out then, and never all of them.
+/// [`Failed`] only where the sink's count of failed writes rose in this call or stands at its last value, and without
+/// it that count stays. A front of the bytes went out then, and never all of them.
 pub fn write_all<K: Sink>(sink: &mut K, bytes: &[u8]) -> Result<(), Failed>
     ensures ok { OnOk result (Appends (K.taken sink.old) (K.taken sink.new) bytes.now) }
     ensures err { OnErr result (AppendsFront (K.taken sink.old) (K.taken sink.new) bytes.now) }

@@ -25,7 +25,9 @@ impl Model for Holder {
 
     ghost view = { λ h. take h.len h.bytes };
 
-    ghost invariant = { λ h. (h.len ≤ 11) × (length h.bytes ≡ 11) × (h.bytes ≡ take h.len h.bytes ++ replicate (11 - h.len) 0) × IsTrue (is_holder (take h.len h.bytes)) };
+    ghost invariant = { λ h. (h.len ≤ 11) × (length h.bytes ≡ 11)
+        × (h.bytes ≡ take h.len h.bytes ++ replicate (11 - h.len) 0)
+        × IsTrue (is_holder (take h.len h.bytes)) };
 
     ghost inverse = { λ bytes. record { bytes = bytes ++ replicate (11 - length bytes) 0; len = length bytes } };
 }

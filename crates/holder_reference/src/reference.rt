@@ -27,7 +27,9 @@ impl Model for Reference {
 
     ghost view = { λ r. take r.len r.bytes };
 
-    ghost invariant = { λ r. (r.len ≤ 16) × (length r.bytes ≡ 16) × (r.bytes ≡ take r.len r.bytes ++ replicate (16 - r.len) 0) × IsTrue (is_reference (take r.len r.bytes)) };
+    ghost invariant = { λ r. (r.len ≤ 16) × (length r.bytes ≡ 16)
+        × (r.bytes ≡ take r.len r.bytes ++ replicate (16 - r.len) 0)
+        × IsTrue (is_reference (take r.len r.bytes)) };
 
     ghost inverse = { λ bytes. record { bytes = bytes ++ replicate (16 - length bytes) 0; len = length bytes } };
 }

@@ -39,7 +39,8 @@ pub fn first_sequence() -> Sequence
 pub fn next_sequence(sequence: &Sequence) -> Option<Sequence>
     ensures exact { result ≡ count.next_sequence sequence.now }
     ensures adds_one { IfSome result (λ next. (n : ℕ) × count.IsNumber sequence.now n × count.IsNumber next (n + 1)) }
-    ensures none { (result ≡ None) ↔ ((sequence.now ≡ count.five_digits 99999) ⊎ IsTrue (count.has_letter sequence.now)) }
+    ensures none { (result ≡ None)
+        ↔ ((sequence.now ≡ count.five_digits 99999) ⊎ IsTrue (count.has_letter sequence.now)) }
 {
     counted_on(sequence)
 }

@@ -20,7 +20,8 @@ impl Model for Head {
 
     ghost view = { λ h. take h.len h.bytes };
 
-    ghost invariant = { λ h. (2 ≤ h.len) × (h.len ≤ 5) × (length h.bytes ≡ 5) × (h.bytes ≡ take h.len h.bytes ++ replicate (5 - h.len) 0) };
+    ghost invariant = { λ h. (2 ≤ h.len) × (h.len ≤ 5) × (length h.bytes ≡ 5)
+        × (h.bytes ≡ take h.len h.bytes ++ replicate (5 - h.len) 0) };
 
     ghost inverse = { λ bytes. record { bytes = bytes ++ replicate (5 - length bytes) 0; len = length bytes } };
 }
