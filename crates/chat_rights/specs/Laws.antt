@@ -13,7 +13,8 @@ ReadAfterWrite = (t : Template) → IsTrue (rights_fit t.kind t.rights) → read
 
 -- What was read is the template's one content.
 abbrev pub WriteAfterRead : Type 0
-WriteAfterRead = (t : Template) (content : List ℕ) → AreBytes content → read_template content ≡ Ok t → IsTemplate t content
+WriteAfterRead = (t : Template) (content : List ℕ) → AreBytes content → read_template content ≡ Ok t
+    → IsTemplate t content
 
 -- Rights are the set of their type's bits that stand in them.
 abbrev pub SameBitsSameRights : Type 0

@@ -8,7 +8,7 @@ use Rattle.signature_provider.specs.Key.{is_key, key_fits}
 use Rattle.cvc_grammar.specs.declared.refusal.CvcRefusal.{CvcRefusal}
 use Rattle.cvc_grammar.specs.declared.refusal.ReadCvc.{ReadCvc}
 use Rattle.cvc_grammar.specs.declared.key_view.KeyParts.{KeyParts}
-use Rattle.cvc_grammar.specs.declared.piece.Piece.{Piece}
+use Rattle.cvc_grammar.specs.declared.parts.Part as code
 use Rattle.cvc_grammar.specs.declared.request.Request.{Request}
 use Rattle.cvc_grammar.specs.ReadingOrder.{Part, key_in}
 use Rattle.cvc_grammar.specs.RequestOrder.{read_request}
@@ -21,7 +21,7 @@ use Rattle.cvc_grammar.proofs.CertStands.{key_there}
 use Rattle.cvc_grammar.proofs.RequestAgain.{read_after_write}
 use Rattle.cvc_grammar.proofs.RequestStands.{write_after_read}
 
-pub key_legal : (part : Part) (r : Result (KeyParts × Piece) CvcRefusal) → AreBytes part.bytes → Answers (λ o. (seen_key o.0, part_of o.1)) (λ e. Some e) r (key_in part)
+pub key_legal : (part : Part) (r : Result (KeyParts × code.Part) CvcRefusal) → AreBytes part.bytes → Answers (λ o. (seen_key o.0, part_of o.1)) (λ e. Some e) r (key_in part)
     → IfOk r (λ o. IsTrue (is_key (seen_key o.0) && key_fits (seen_key o.0)))
 key_legal part (Ok o) b e = let h = key_there part (seen_key o.0) (part_of o.1) b e in h.0
 key_legal part (Err x) b e = tt

@@ -1,5 +1,5 @@
--- Card-verifiable certificates: the one text of each (BSI TR-03110-3, CV certificates, certificate profile). The limits in
--- bytes are this project's own.
+-- Card-verifiable certificates: the one text of each (BSI TR-03110-3, CV certificates, certificate profile). The limits
+-- in bytes are this project's own.
 use Rattle.std.specs.Prelude.{◌≡◌, ℕ, ◌≤◌, List, [], ◌∷◌, ◌++◌, length, Bool, ◌&&◌, IsTrue, Option, Some, None}
 use Rattle.eac_base.specs.Bytes.{is_within}
 use Rattle.tlv_core.specs.Object.{object}
@@ -58,8 +58,8 @@ pub record HasLegalFields (b : CertBody) : Type 0 where
   pub from : b.from ≤ last_day
   pub until : b.until ≤ last_day
 
--- What no type says of a body, and what a writer asks for: the key is in the grammar and within its limit, and so is the
--- text of the body.
+-- What no type says of a body, and what a writer asks for: the key is in the grammar and within its limit, and so is
+-- the text of the body.
 pub record IsLegalBody (b : CertBody) : Type 0 where
   pub key : IsTrue (is_key_of_body b)
   pub size : length (body_text b) ≤ longest_cert

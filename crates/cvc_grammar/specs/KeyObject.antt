@@ -16,7 +16,8 @@ pub record IsKeyContent (k : Key) (content : List ℕ) : Type 0 where
 
 -- The object of the point, and the cofactor behind it.
 abbrev pub elliptic_after : Algorithm → List ℕ → Result First TlvRefusal → Option Key
-elliptic_after a domain (Ok o) = if o.tag == 0x86 then Some (record { algorithm = a; domain = domain; point = o.content; cofactor = o.rest }) else None
+elliptic_after a domain (Ok o) = if o.tag == 0x86
+    then Some (record { algorithm = a; domain = domain; point = o.content; cofactor = o.rest }) else None
 elliptic_after a domain (Err e) = None
 
 -- The domain, where its objects stand at the front.

@@ -1,5 +1,5 @@
--- The order in which a certificate is read: the value, or the first step that fails. Which step comes before which is this
--- project's own; the objects are those of BSI TR-03110-3, certificate profile.
+-- The order in which a certificate is read: the value, or the first step that fails. Which step comes before which is
+-- this project's own; the objects are those of BSI TR-03110-3, certificate profile.
 use Rattle.std.specs.Prelude.{ℕ, ◌+◌, ◌-◌, List, [], ◌∷◌, length, nat_le, ◌==◌, if◌then◌else◌, Option, Some, None, Result, Ok}
 use Rattle.std.specs.Str.{bytes_eq}
 use Rattle.eac_base.specs.Bytes.{is_empty}
@@ -42,7 +42,11 @@ Read A = Result (A × Part) CvcRefusal
 
 abbrev pub found_in : Part → First → Found
 found_in part o = let after = part.place + (length part.bytes - length o.rest) in
-    record { tag = o.tag; content = record { place = after - length o.content; bytes = o.content }; rest = record { place = after; bytes = o.rest } }
+    record {
+      tag = o.tag;
+      content = record { place = after - length o.content; bytes = o.content };
+      rest = record { place = after; bytes = o.rest };
+    }
 
 abbrev pub object_in : Part → Step Found
 object_in part = do
@@ -110,7 +114,15 @@ cert_body_in part = do
   from ← date_in 0x5f25 template.1
   until ← date_in 0x5f24 from.1
   extensions ← extensions_in until.1
-  Ok (record { authority = authority.0; key = key.0; holder = holder.0; template = template.0; from = from.0; until = until.0; extensions = extensions })
+  Ok (record {
+    authority = authority.0;
+    key = key.0;
+    holder = holder.0;
+    template = template.0;
+    from = from.0;
+    until = until.0;
+    extensions = extensions;
+  })
 
 -- ---- a body and its signature
 

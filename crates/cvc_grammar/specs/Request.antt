@@ -1,5 +1,5 @@
--- Certificate requests, bare and authenticated: the one text of each (BSI TR-03110-3, certificate requests, authenticated
--- requests). The limit in bytes is this project's own.
+-- Certificate requests, bare and authenticated: the one text of each (BSI TR-03110-3, certificate requests,
+-- authenticated requests). The limit in bytes is this project's own.
 use Rattle.std.specs.Prelude.{◌≡◌, ℕ, ◌≤◌, List, [], ◌++◌, length, Bool, ◌&&◌, ◌||◌, not, IsTrue, Option, Some, None, IfSome}
 use Rattle.tlv_core.specs.Object.{object}
 use Rattle.holder_reference.specs.Reference.{is_reference}
@@ -17,7 +17,8 @@ authority_text None = []
 authority_text (Some reference) = object 0x42 reference
 
 abbrev pub request_body_content : RequestBody → List ℕ
-request_body_content b = profile_object ++ authority_text b.authority ++ key_object b.key ++ object 0x5f20 b.holder ++ extensions_text b.extensions
+request_body_content b = profile_object ++ authority_text b.authority ++ key_object b.key ++ object 0x5f20 b.holder
+    ++ extensions_text b.extensions
 
 -- What the inner signature is over: the whole body object.
 abbrev pub request_body_text : RequestBody → List ℕ

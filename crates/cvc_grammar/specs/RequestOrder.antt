@@ -8,7 +8,8 @@ use Rattle.cvc_grammar.specs.declared.refusal.CvcRefusal.TheVariants as refusals
 use Rattle.cvc_grammar.specs.declared.request.RequestBody.{RequestBody}
 use Rattle.cvc_grammar.specs.declared.request.Outer.{Outer}
 use Rattle.cvc_grammar.specs.declared.request.Request.{Request}
-use Rattle.cvc_grammar.specs.ReadingOrder.{Part, Step, Read, whole, object_in, expected, nothing_in, profile_in, reference_in, key_in, extensions_in, signature_in, signed_in}
+use Rattle.cvc_grammar.specs.ReadingOrder.{Part, Step, Read, whole, object_in, expected, nothing_in}
+use Rattle.cvc_grammar.specs.ReadingOrder.{profile_in, reference_in, key_in, extensions_in, signature_in, signed_in}
 use Rattle.cvc_grammar.specs.Request.{longest_request, is_request_key}
 
 -- ---- the objects of a body

@@ -11,7 +11,12 @@ use Rattle.cvc_grammar.specs.Request.{request_body_text, bare_text, outer_signed
 use Rattle.cvc_grammar.specs.Views.{seen_key}
 
 abbrev pub seen_request_body : RequestBodyView → RequestBody
-seen_request_body b = record { authority = b.authority; key = seen_key b.key; holder = b.holder; extensions = option_map (λ e. e.now) b.extensions }
+seen_request_body b = record {
+  authority = b.authority;
+  key = seen_key b.key;
+  holder = b.holder;
+  extensions = option_map (λ e. e.now) b.extensions;
+}
 
 abbrev pub seen_outer : OuterView → Outer
 seen_outer o = record { reference = o.reference; signature = o.signature.now }
@@ -21,7 +26,7 @@ abbrev pub seen_request : RequestView → Request
 seen_request v = record {
   body = record {
     authority = v.authority;
-    key = record { algorithm = v.key.algorithm; domain = v.key.domain.now; point = v.key.point.now; cofactor = v.cofactor.now };
+    key = seen_key (record { key = v.key; cofactor = v.cofactor });
     holder = v.holder;
     extensions = option_map (λ e. e.now) v.extensions;
   };
@@ -29,8 +34,8 @@ seen_request v = record {
   outer = option_map seen_outer v.outer;
 }
 
--- A view of this input: the request whose text it is, the whole of it, and in it what the inner signature is over, the bare
--- request, and, one behind the other, what the outer signature is over.
+-- A view of this input: the request whose text it is, the whole of it, and in it what the inner signature is over, the
+-- bare request, and, one behind the other, what the outer signature is over.
 pub record IsRequestView (bytes : List ℕ) (v : RequestView) : Type 0 where
   pub request : IsRequest (seen_request v) bytes
   pub whole : v.whole.now ≡ bytes

@@ -3,7 +3,7 @@
 use Rattle.std.specs.Prelude.{◌≡◌, ℕ, ◌+◌, List, length, Option, Some, None, Result, Err, option_map}
 use Rattle.eac_base.specs.Answers.{Answers}
 use Rattle.signature_provider.specs.declared.key.Key.{Key}
-use Rattle.cvc_grammar.specs.declared.piece.Piece.{Piece}
+use Rattle.cvc_grammar.specs.declared.parts.Part as code
 use Rattle.cvc_grammar.specs.declared.key_view.KeyParts.{KeyParts}
 use Rattle.cvc_grammar.specs.declared.cert_view.BodyView.{BodyView}
 use Rattle.cvc_grammar.specs.declared.certificate.CertBody.{CertBody}
@@ -15,11 +15,11 @@ use Rattle.cvc_grammar.specs.declared.refusal.ReadCvc.TheVariants as reads
 use Rattle.cvc_grammar.specs.Certificate.{IsCert, body_text}
 use Rattle.cvc_grammar.specs.ReadingOrder.{Part, Step}
 
-abbrev pub part_of : Piece → Part
+abbrev pub part_of : code.Part → Part
 part_of p = record { place = p.place; bytes = p.bytes.now }
 
 -- The place behind a part.
-abbrev pub end_of : Piece → ℕ
+abbrev pub end_of : code.Part → ℕ
 end_of p = p.place + length p.bytes.now
 
 -- The answer, seen by its value, is what the reading order says.
@@ -27,7 +27,12 @@ abbrev pub Reads : {X Y : Type 0} → (X → Y) → Result X CvcRefusal → Step
 Reads value result said = Answers value (λ e. Some e) result said
 
 abbrev pub seen_key : KeyParts → Key
-seen_key k = record { algorithm = k.key.algorithm; domain = k.key.domain.now; point = k.key.point.now; cofactor = k.cofactor.now }
+seen_key k = record {
+  algorithm = k.key.algorithm;
+  domain = k.key.domain.now;
+  point = k.key.point.now;
+  cofactor = k.cofactor.now;
+}
 
 abbrev pub seen_body : BodyView → CertBody
 seen_body b = record {
@@ -45,7 +50,7 @@ abbrev pub seen_cert : CertView → Cert
 seen_cert v = record {
   body = record {
     authority = v.authority;
-    key = record { algorithm = v.key.algorithm; domain = v.key.domain.now; point = v.key.point.now; cofactor = v.cofactor.now };
+    key = seen_key (record { key = v.key; cofactor = v.cofactor });
     holder = v.holder;
     template = v.template;
     from = v.from;

@@ -5,13 +5,13 @@ ghost use Rattle.cvc_grammar.specs.Views.{part_of, end_of, seen_key, Reads};
 
 use crate::CvcRefusal;
 use crate::key_view::{KeyParts, view_key};
-use crate::piece::{Piece, expected, nothing_in};
+use crate::parts::{Part, expected, nothing_in};
 use chat_rights::{Template, read_template};
 use cv_dates::{Day, read_date};
 use holder_reference::{Reference, read_reference};
 use tlv_core::Tag;
 
-pub fn profile_in<'a>(part: Piece<'a>) -> Result<Piece<'a>, CvcRefusal>
+pub fn profile_in<'a>(part: Part<'a>) -> Result<Part<'a>, CvcRefusal>
     requires { end_of part < 2 ^ 32 }
     ensures exact { Reads (λ o. part_of o) result (order.profile_in (part_of part.entry)) }
     ensures rest { IfOk result (λ o. end_of o ≤ end_of part.entry) }
@@ -23,7 +23,7 @@ pub fn profile_in<'a>(part: Piece<'a>) -> Result<Piece<'a>, CvcRefusal>
     Ok(rest)
 }
 
-pub fn reference_in<'a>(tag: Tag, part: Piece<'a>) -> Result<(Reference, Piece<'a>), CvcRefusal>
+pub fn reference_in<'a>(tag: Tag, part: Part<'a>) -> Result<(Reference, Part<'a>), CvcRefusal>
     requires { end_of part < 2 ^ 32 }
     ensures exact { Reads (λ o. (o.0, part_of o.1)) result (order.reference_in tag (part_of part.entry)) }
     ensures rest { IfOk result (λ o. end_of o.1 ≤ end_of part.entry) }
@@ -35,7 +35,7 @@ pub fn reference_in<'a>(tag: Tag, part: Piece<'a>) -> Result<(Reference, Piece<'
     }
 }
 
-pub fn key_in<'a>(part: Piece<'a>) -> Result<(KeyParts<'a>, Piece<'a>), CvcRefusal>
+pub fn key_in<'a>(part: Part<'a>) -> Result<(KeyParts<'a>, Part<'a>), CvcRefusal>
     requires { end_of part < 2 ^ 32 }
     ensures exact { Reads (λ o. (seen_key o.0, part_of o.1)) result (order.key_in (part_of part.entry)) }
     ensures rest { IfOk result (λ o. end_of o.1 ≤ end_of part.entry) }
@@ -53,7 +53,7 @@ pub fn key_in<'a>(part: Piece<'a>) -> Result<(KeyParts<'a>, Piece<'a>), CvcRefus
     }
 }
 
-pub fn template_in<'a>(part: Piece<'a>) -> Result<(Template, Piece<'a>), CvcRefusal>
+pub fn template_in<'a>(part: Part<'a>) -> Result<(Template, Part<'a>), CvcRefusal>
     requires { end_of part < 2 ^ 32 }
     ensures exact { Reads (λ o. (o.0, part_of o.1)) result (order.template_in (part_of part.entry)) }
     ensures rest { IfOk result (λ o. end_of o.1 ≤ end_of part.entry) }
@@ -65,7 +65,7 @@ pub fn template_in<'a>(part: Piece<'a>) -> Result<(Template, Piece<'a>), CvcRefu
     }
 }
 
-pub fn date_in<'a>(tag: Tag, part: Piece<'a>) -> Result<(Day, Piece<'a>), CvcRefusal>
+pub fn date_in<'a>(tag: Tag, part: Part<'a>) -> Result<(Day, Part<'a>), CvcRefusal>
     requires { end_of part < 2 ^ 32 }
     ensures exact { Reads (λ o. (o.0, part_of o.1)) result (order.date_in tag (part_of part.entry)) }
     ensures rest { IfOk result (λ o. end_of o.1 ≤ end_of part.entry) }
@@ -77,7 +77,7 @@ pub fn date_in<'a>(tag: Tag, part: Piece<'a>) -> Result<(Day, Piece<'a>), CvcRef
     }
 }
 
-pub fn extensions_in<'a>(part: Piece<'a>) -> Result<Option<&'a [u8]>, CvcRefusal>
+pub fn extensions_in<'a>(part: Part<'a>) -> Result<Option<&'a [u8]>, CvcRefusal>
     requires { end_of part < 2 ^ 32 }
     ensures { Reads (λ o. option_map (λ e. e.now) o) result (order.extensions_in (part_of part.entry)) }
 {

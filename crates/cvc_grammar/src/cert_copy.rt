@@ -72,8 +72,8 @@ fn own_view(alloc: Global, bytes: &[u8]) -> Result<Cert, ReadCvc>
     }
 }
 
-/// The certificate of the input, copied. The refusals are those of `view_cert`, in its order; `NoMemory` can come in place
-/// of a certificate alone.
+/// The certificate of the input, copied. The refusals are those of `view_cert`, in its order; `NoMemory` can come in
+/// place of a certificate alone.
 pub fn read_cert(alloc: Global, bytes: &[u8]) -> Result<Cert, ReadCvc>
     ensures exact { Answers (λ c. c) refused_cvc result (order.read_cert bytes.now) }
     ensures found { IfOk result (λ c. IsCert c bytes.now) }

@@ -7,7 +7,7 @@ ghost use Rattle.cvc_grammar.specs.declared.certificate.Cert.{Cert};
 
 use crate::body_fields::{date_in, extensions_in, key_in, profile_in, reference_in, template_in};
 use crate::key_view::KeyParts;
-use crate::piece::{Piece, expected, nothing_in};
+use crate::parts::{Part, expected, nothing_in};
 use crate::signed::signed_in;
 use crate::{CertView, CvcRefusal};
 use chat_rights::Template;
@@ -28,7 +28,7 @@ struct BodyView<'a> {
 }
 
 // A `match` stands where `?` has no proof: the value holds a reference, a template or a day beside a part of the input.
-fn cert_body_in<'a>(part: Piece<'a>) -> Result<BodyView<'a>, CvcRefusal>
+fn cert_body_in<'a>(part: Part<'a>) -> Result<BodyView<'a>, CvcRefusal>
     requires { end_of part < 2 ^ 32 }
     ensures { Reads seen_body result (order.cert_body_in (part_of part.entry)) }
 {
@@ -67,9 +67,10 @@ fn cert_body_in<'a>(part: Piece<'a>) -> Result<BodyView<'a>, CvcRefusal>
 }
 
 /// The body and the signature, and the whole body.
-fn signed_body_in<'a>(part: Piece<'a>) -> Result<(BodyView<'a>, &'a [u8], &'a [u8]), CvcRefusal>
+fn signed_body_in<'a>(part: Part<'a>) -> Result<(BodyView<'a>, &'a [u8], &'a [u8]), CvcRefusal>
     requires { end_of part < 2 ^ 32 }
-    ensures exact { Reads (λ o. record { body = seen_body o.0; signature = o.2.now }) result (order.signed_cert_in (part_of part.entry)) }
+    ensures exact { Reads (λ o. record { body = seen_body o.0; signature = o.2.now })
+        result (order.signed_cert_in (part_of part.entry)) }
     ensures whole { IfOk result (λ o. o.1.now ≡ body_text (seen_body o.0)) }
 {
     let (body, whole, signature) = signed_in(part)?;
@@ -88,7 +89,7 @@ fn whole_cert(bytes: &[u8]) -> Result<CertView, CvcRefusal>
     if 1792 < bytes.len() {
         return Err(CvcRefusal::TooLong);
     }
-    let (content, rest) = expected(0x7f21, Piece { place: 0, bytes })?;
+    let (content, rest) = expected(0x7f21, Part { place: 0, bytes })?;
     nothing_in(rest)?;
     match signed_body_in(content) {
         Err(e) => Err(e),

@@ -11,7 +11,8 @@ use tlv_core::{Tag, next_object};
 
 /// What follows the object at the front, which has to have this tag and a content.
 fn after_object(tag: Tag, bytes: &[u8]) -> Option<&[u8]>
-    ensures rest { (others : List ℕ → Option (List ℕ)) → onward tag others (first_object bytes.now) ≡ (option_map (λ r. r.now) result gives others) }
+    ensures rest { (others : List ℕ → Option (List ℕ)) →
+        onward tag others (first_object bytes.now) ≡ (option_map (λ r. r.now) result gives others) }
     ensures within { IfSome result (λ r. length r.now ≤ length bytes.now) }
 {
     match next_object(bytes) {

@@ -42,7 +42,8 @@ fn with_point<'a>(algorithm: Algorithm, domain: &'a [u8], bytes: &'a [u8]) -> Op
 
 /// The key of these values: its domain, where all of it stands at the front, and the point.
 fn elliptic<'a>(algorithm: Algorithm, values: &'a [u8]) -> Option<KeyParts<'a>>
-    ensures { option_map seen_key result ≡ order.elliptic_with algorithm values.now (after_objects domain_tags values.now) }
+    ensures { option_map seen_key result
+        ≡ order.elliptic_with algorithm values.now (after_objects domain_tags values.now) }
 {
     match after_domain(values) {
         None => with_point(algorithm, &[], values),
@@ -71,7 +72,8 @@ fn spelt_key<'a>(algorithm: Algorithm, values: &'a [u8]) -> Option<KeyParts<'a>>
 }
 
 fn algorithm_of(identifier: &[u8]) -> Option<Algorithm>
-    ensures { result ≡ (let a = order.spelt_algorithm identifier.now in if bytes_eq identifier.now (algorithm_identifier a) then Some a else None) }
+    ensures { result ≡ (let a = order.spelt_algorithm identifier.now in
+        if bytes_eq identifier.now (algorithm_identifier a) then Some a else None) }
 {
     if identifier.len() != 10 {
         return None;

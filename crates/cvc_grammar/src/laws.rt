@@ -1,5 +1,5 @@
-// What certificates and requests, their readers and their writers have to do with each other. Each law is the contract of
-// a function that does nothing.
+// What certificates and requests, their readers and their writers have to do with each other. Each law is the contract
+// of a function that does nothing.
 ghost use Rattle.cvc_grammar.specs.Laws.{OneText, OneCert, ReadAfterWrite, WriteAfterRead};
 ghost use Rattle.cvc_grammar.specs.RequestLaws as requests;
 

@@ -2,10 +2,10 @@
 //! (BSI TR-03110-3, CV certificates and certificate requests).
 //!
 //! A certificate is a row of data objects that ends with a signature. `view_cert` reads one where it lies and takes no
-//! memory, `read_cert` copies what it read. Both read the whole input in one order, and answer the first step that fails
-//! with the place of its object in the input. `write_body` writes what a signature is over, `write_cert` the whole.
-//! `view_request` and `read_request` do so for requests, whose view also shows what each of its signatures is over; they
-//! are written by three calls, one for each thing that is signed or sent.
+//! memory, `read_cert` copies what it read. Both read the whole input in one order, and answer the first step that
+//! fails. `write_body` writes what a signature is over, `write_cert` the whole. `view_request` and `read_request` do so
+//! for requests, whose view also shows what each of their signatures is over; they are written by three calls, one for
+//! each thing that is signed or sent.
 //!
 //! A certificate and a request have one text, and a text is of one of them; what was written is read, and what was read
 //! is written: the functions of `laws` say so.
@@ -22,7 +22,7 @@ mod key_parts;
 mod key_view;
 pub mod laws;
 mod object_writing;
-mod piece;
+mod parts;
 mod refusal;
 mod request;
 mod request_copy;

@@ -66,8 +66,8 @@ fn own_request_view(alloc: Global, bytes: &[u8]) -> Result<Request, ReadCvc>
     }
 }
 
-/// The request of the input, copied. The refusals are those of `view_request`, in its order; `NoMemory` can come in place
-/// of a request alone.
+/// The request of the input, copied. The refusals are those of `view_request`, in its order; `NoMemory` can come in
+/// place of a request alone.
 pub fn read_request(alloc: Global, bytes: &[u8]) -> Result<Request, ReadCvc>
     ensures exact { Answers (λ r. r) refused_cvc result (order.read_request bytes.now) }
     ensures found { IfOk result (λ r. IsRequest r bytes.now) }

@@ -13,7 +13,7 @@ ghost use Rattle.cvc_grammar.specs.RequestViews.{seen_request_body, seen_request
 
 use crate::body_fields::{extensions_in, key_in, profile_in, reference_in};
 use crate::key_view::KeyParts;
-use crate::piece::{Piece, nothing_in, object_in, whole_object};
+use crate::parts::{Part, nothing_in, object_in, whole_object};
 use crate::signed::{signature_in, signed_in};
 use crate::{CvcRefusal, ObjectFault, OuterView, RequestView};
 use eac_base::are_bytes;
@@ -38,7 +38,7 @@ struct BareView<'a> {
 }
 
 /// The authority's reference, where the object at the front has its tag, and the rest.
-fn authority_in<'a>(part: Piece<'a>) -> Result<(Option<Reference>, Piece<'a>), CvcRefusal>
+fn authority_in<'a>(part: Part<'a>) -> Result<(Option<Reference>, Part<'a>), CvcRefusal>
     requires { end_of part < 2 ^ 32 }
     ensures exact { Reads (λ o. (o.0, part_of o.1)) result (order.authority_in (part_of part.entry)) }
     ensures rest { IfOk result (λ o. end_of o.1 ≤ end_of part.entry) }
@@ -54,7 +54,7 @@ fn authority_in<'a>(part: Piece<'a>) -> Result<(Option<Reference>, Piece<'a>), C
 }
 
 /// The key, with what is known of each key that was read.
-fn legal_key_in<'a>(part: Piece<'a>) -> Result<(KeyParts<'a>, Piece<'a>), CvcRefusal>
+fn legal_key_in<'a>(part: Part<'a>) -> Result<(KeyParts<'a>, Part<'a>), CvcRefusal>
     requires { end_of part < 2 ^ 32 }
     ensures exact { Reads (λ o. (seen_key o.0, part_of o.1)) result (certs.key_in (part_of part.entry)) }
     ensures legal { IfOk result (λ o. IsTrue (keys.is_key (seen_key o.0) && keys.key_fits (seen_key o.0))) }
@@ -65,7 +65,8 @@ fn legal_key_in<'a>(part: Piece<'a>) -> Result<(KeyParts<'a>, Piece<'a>), CvcRef
 }
 
 fn has_its_domain(parts: KeyParts) -> bool
-    ensures { result ≡ (not (keys.is_elliptic (seen_key parts.entry).algorithm) || keys.has_domain (seen_key parts.entry)) }
+    ensures { result ≡ (not (keys.is_elliptic (seen_key parts.entry).algorithm)
+        || keys.has_domain (seen_key parts.entry)) }
 {
     !parts.key.algorithm.is_elliptic() || !parts.key.domain.is_empty()
 }
@@ -77,7 +78,7 @@ fn is_request_key(parts: KeyParts) -> bool
     has_its_domain(parts)
 }
 
-fn request_key_in<'a>(part: Piece<'a>) -> Result<(KeyParts<'a>, Piece<'a>), CvcRefusal>
+fn request_key_in<'a>(part: Part<'a>) -> Result<(KeyParts<'a>, Part<'a>), CvcRefusal>
     requires { end_of part < 2 ^ 32 }
     ensures exact { Reads (λ o. (seen_key o.0, part_of o.1)) result (order.request_key_in (part_of part.entry)) }
     ensures rest { IfOk result (λ o. end_of o.1 ≤ end_of part.entry) }
@@ -90,7 +91,7 @@ fn request_key_in<'a>(part: Piece<'a>) -> Result<(KeyParts<'a>, Piece<'a>), CvcR
 }
 
 // A `match` stands where `?` has no proof: the value holds a reference beside a part of the input.
-fn request_body_in<'a>(part: Piece<'a>) -> Result<RequestBodyView<'a>, CvcRefusal>
+fn request_body_in<'a>(part: Part<'a>) -> Result<RequestBodyView<'a>, CvcRefusal>
     requires { end_of part < 2 ^ 32 }
     ensures { Reads seen_request_body result (order.request_body_in (part_of part.entry)) }
 {
@@ -114,9 +115,10 @@ fn request_body_in<'a>(part: Piece<'a>) -> Result<RequestBodyView<'a>, CvcRefusa
 }
 
 /// The body and the inner signature, whatever stands around them.
-fn bare_in<'a>(part: Piece<'a>) -> Result<BareView<'a>, CvcRefusal>
+fn bare_in<'a>(part: Part<'a>) -> Result<BareView<'a>, CvcRefusal>
     requires { end_of part < 2 ^ 32 }
-    ensures exact { (outer : Option Outer) → Reads (λ o. record { body = seen_request_body o.fields; inner = o.inner.now; outer = outer })
+    ensures exact { (outer : Option Outer) →
+        Reads (λ o. record { body = seen_request_body o.fields; inner = o.inner.now; outer = outer })
         result (order.request_in (part_of part.entry) outer) }
     ensures body { IfOk result (λ o. o.body.now ≡ texts.request_body_text (seen_request_body o.fields)) }
 {
@@ -133,7 +135,7 @@ fn bare_in<'a>(part: Piece<'a>) -> Result<BareView<'a>, CvcRefusal>
 }
 
 /// The request whose object 7F21 is the whole input.
-fn plain_in<'a>(whole: &'a [u8], part: Piece<'a>) -> Result<RequestView<'a>, CvcRefusal>
+fn plain_in<'a>(whole: &'a [u8], part: Part<'a>) -> Result<RequestView<'a>, CvcRefusal>
     requires { end_of part < 2 ^ 32 }
     ensures exact { Reads seen_request result (order.request_in (part_of part.entry) None) }
     ensures whole { IfOk result (λ v. v.whole.now ≡ whole.now) }
@@ -158,7 +160,7 @@ fn plain_in<'a>(whole: &'a [u8], part: Piece<'a>) -> Result<RequestView<'a>, Cvc
 }
 
 /// The reference of the object 42 at the front, the whole object and the rest.
-fn named_in<'a>(part: Piece<'a>) -> Result<(Reference, &'a [u8], Piece<'a>), CvcRefusal>
+fn named_in<'a>(part: Part<'a>) -> Result<(Reference, &'a [u8], Part<'a>), CvcRefusal>
     requires { end_of part < 2 ^ 32 }
     ensures exact { Reads (λ o. (o.0, part_of o.2)) result (certs.reference_in 0x42 (part_of part.entry)) }
     ensures whole { IfOk result (λ o. o.1.now ≡ object 0x42 o.0) }
@@ -172,7 +174,7 @@ fn named_in<'a>(part: Piece<'a>) -> Result<(Reference, &'a [u8], Piece<'a>), Cvc
 }
 
 /// The bare request and what stands around it, in the content of an object 67.
-fn authenticated_in<'a>(whole: &'a [u8], part: Piece<'a>) -> Result<RequestView<'a>, CvcRefusal>
+fn authenticated_in<'a>(whole: &'a [u8], part: Part<'a>) -> Result<RequestView<'a>, CvcRefusal>
     requires { end_of part < 2 ^ 32 }
     ensures exact { Reads seen_request result (order.authenticated_in (part_of part.entry)) }
     ensures whole { IfOk result (λ v. v.whole.now ≡ whole.now) }
@@ -217,7 +219,7 @@ fn whole_request(bytes: &[u8]) -> Result<RequestView, CvcRefusal>
     if 2304 < bytes.len() {
         return Err(CvcRefusal::TooLong);
     }
-    let (tag, content, rest) = object_in(Piece { place: 0, bytes })?;
+    let (tag, content, rest) = object_in(Part { place: 0, bytes })?;
     if tag != 0x7f21 && tag != 0x67 {
         return Err(CvcRefusal::Object {
             offset: 0,
@@ -239,10 +241,10 @@ fn whole_request(bytes: &[u8]) -> Result<RequestView, CvcRefusal>
 ///
 /// The refusal is that of the first step that fails, in this order: the input's size (`TooLong`); an object 7F21 or 67
 /// (`Object`) with nothing behind it (`Trailing`). In 67 come 7F21 (`Object`), 42 (`Reference`) and the outer signature
-/// 5F37 (`Object`), each judged before the next, with nothing behind them (`Trailing`). Then the content of that 7F21 is
-/// read as a certificate's: the body 7F4E and the inner signature, then the body's objects 5F29 (`Profile`), 42 where it
-/// is there (`Reference`), 7F49 (`Key`), 5F20 (`Reference`) and, where bytes are left, 65 with nothing behind it
-/// (`Trailing`).
+/// 5F37 (`Object`), each judged before the next, with nothing behind them (`Trailing`). Then the content of that 7F21
+/// is read as a certificate's: the body 7F4E and the inner signature, then the body's objects 5F29 (`Profile`), 42
+/// where it is there (`Reference`), 7F49 (`Key`), 5F20 (`Reference`) and, where bytes are left, 65 with nothing behind
+/// it (`Trailing`).
 pub fn view_request(bytes: &[u8]) -> Result<RequestView, CvcRefusal>
     ensures exact { Reads seen_request result (order.read_request bytes.now) }
     ensures found { IfOk result (λ v. IsRequestView bytes.now v) }

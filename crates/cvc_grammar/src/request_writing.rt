@@ -3,7 +3,8 @@ ghost use Rattle.std.specs.Prelude.{◌≡◌, ◌++◌, ◌<◌, ◌≤◌, len
 ghost use Rattle.holder_reference.specs.Reference.{is_reference};
 ghost use Rattle.cvc_grammar.specs.Certificate.{is_signature};
 ghost use Rattle.cvc_grammar.specs.Request as texts;
-ghost use Rattle.cvc_grammar.specs.Request.{HasLegalReferences, IsLegalRequestBody, IsLegalBare, IsLegalRequest, IsRequest};
+ghost use Rattle.cvc_grammar.specs.Request.{HasLegalReferences, IsLegalRequestBody, IsLegalBare};
+ghost use Rattle.cvc_grammar.specs.Request.{IsLegalRequest, IsRequest};
 
 use crate::object_writing::{push_extensions, push_key, push_object};
 use crate::{Outer, Request, RequestBody};
@@ -47,8 +48,8 @@ pub fn write_request_body(alloc: Global, body: &RequestBody) -> Result<Octets, N
     Ok(out)
 }
 
-/// The whole object 7F21 of a request: the request without what stands around it. An outer signature is over these bytes
-/// and the whole object 42 of the reference that signs.
+/// The whole object 7F21 of a request: the request without what stands around it. An outer signature is over these
+/// bytes and the whole object 42 of the reference that signs.
 pub fn write_signed_part(alloc: Global, request: &Request) -> Result<Octets, NoMemory>
     requires { IsLegalBare request.now }
     ensures text { IfOk result (λ o. o ≡ texts.bare_text request.now) }

@@ -4,11 +4,11 @@ ghost use Rattle.tlv_core.specs.Object.{object};
 ghost use Rattle.cvc_grammar.specs.ReadingOrder as order;
 ghost use Rattle.cvc_grammar.specs.Views.{part_of, end_of, Reads};
 
-use crate::piece::{Piece, expected, nothing_in, whole_object};
+use crate::parts::{Part, expected, nothing_in, whole_object};
 use crate::{CvcRefusal, ObjectFault};
 
 /// The signature and the rest.
-pub fn signature_in<'a>(part: Piece<'a>) -> Result<(&'a [u8], Piece<'a>), CvcRefusal>
+pub fn signature_in<'a>(part: Part<'a>) -> Result<(&'a [u8], Part<'a>), CvcRefusal>
     requires { end_of part < 2 ^ 32 }
     ensures exact { Reads (λ o. (o.0.now, part_of o.1)) result (order.signature_in (part_of part.entry)) }
     ensures rest { IfOk result (λ o. end_of o.1 ≤ end_of part.entry) }
@@ -25,7 +25,7 @@ pub fn signature_in<'a>(part: Piece<'a>) -> Result<(&'a [u8], Piece<'a>), CvcRef
 }
 
 /// The body's content, the whole body object and the signature, with nothing behind it.
-pub fn signed_in<'a>(part: Piece<'a>) -> Result<(Piece<'a>, &'a [u8], &'a [u8]), CvcRefusal>
+pub fn signed_in<'a>(part: Part<'a>) -> Result<(Part<'a>, &'a [u8], &'a [u8]), CvcRefusal>
     requires { end_of part < 2 ^ 32 }
     ensures exact { Reads (λ o. (part_of o.0, o.2.now)) result (order.signed_in (part_of part.entry)) }
     ensures whole { IfOk result (λ o. o.1.now ≡ object 0x7f4e o.0.bytes.now) }

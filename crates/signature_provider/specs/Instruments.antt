@@ -50,7 +50,8 @@ is_row_of row key message = same_key row.0 key && bytes_eq row.1 message
 abbrev pub rows_say : ℕ → List (PublicKey × List ℕ) → PublicKey → List ℕ → List ℕ → Bool
 rows_say number [] key message signature = false
 rows_say number (row ∷ rows) key message signature =
-    (bytes_eq signature (table_signature number) && is_row_of row key message) || rows_say (number + 1) rows key message signature
+    (bytes_eq signature (table_signature number) && is_row_of row key message)
+    || rows_say (number + 1) rows key message signature
 
 abbrev pub table_says : List (PublicKey × List ℕ) → PublicKey → List ℕ → List ℕ → Bool
 table_says rows = rows_say 1 rows
@@ -77,8 +78,8 @@ length_in_four bytes = to_be_bytes w32 (length bytes % 2 ^ 32)
 
 -- What the digest is over.
 abbrev pub digest_input : List ℕ → PublicKey → List ℕ → List ℕ
-digest_input secret key message = secret ++ (key.algorithm.arc ∷ key.algorithm.last ∷ []) ++ length_in_four key.domain ++ key.domain
-    ++ length_in_four key.point ++ key.point ++ message
+digest_input secret key message = secret ++ (key.algorithm.arc ∷ key.algorithm.last ∷ [])
+    ++ length_in_four key.domain ++ key.domain ++ length_in_four key.point ++ key.point ++ message
 
 abbrev pub digest_signature : List ℕ → PublicKey → List ℕ → List ℕ
 digest_signature secret key message = sha256 (digest_input secret key message)

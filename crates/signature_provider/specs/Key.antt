@@ -1,5 +1,5 @@
--- Public keys and their data objects (BSI TR-03110-3, public key data objects for RSA and for elliptic curves). The limits
--- in bytes are this project's own.
+-- Public keys and their data objects (BSI TR-03110-3, public key data objects for RSA and for elliptic curves). The
+-- limits in bytes are this project's own.
 use Rattle.std.specs.Prelude.{ℕ, ◌+◌, List, [], ◌∷◌, ◌++◌, length, Bool, ◌&&◌, ◌||◌, not, nat_lt, nat_le, ◌==◌, if◌then◌else◌}
 use Rattle.eac_base.specs.Bytes.{is_within, is_empty}
 use Rattle.tlv_core.specs.Object.{object, are_objects}
@@ -47,7 +47,8 @@ is_rsa_key domain point cofactor = is_empty domain && is_empty cofactor && is_rs
 
 abbrev pub is_key : Key → Bool
 is_key k = is_algorithm k.algorithm
-    && (if is_elliptic k.algorithm then is_elliptic_key k.domain k.point k.cofactor else is_rsa_key k.domain k.point k.cofactor)
+    && (if is_elliptic k.algorithm then is_elliptic_key k.domain k.point k.cofactor
+    else is_rsa_key k.domain k.point k.cofactor)
 
 abbrev pub has_domain : Key → Bool
 has_domain k = not (is_empty k.domain)

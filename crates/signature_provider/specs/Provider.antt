@@ -46,7 +46,8 @@ Signed = Option (List (PublicKey × List ℕ))
 
 -- What was called good still is.
 abbrev pub SaysMore : Says → Says → Type 0
-SaysMore said says = (key : PublicKey) (message signature : List ℕ) → IsTrue (said key message signature) → IsTrue (says key message signature)
+SaysMore said says = (key : PublicKey) (message signature : List ℕ) → IsTrue (said key message signature)
+    → IsTrue (says key message signature)
 
 -- What was held still is.
 abbrev pub HoldsMore : Holds → Holds → Type 0
@@ -55,7 +56,8 @@ HoldsMore held holds = (key : PublicKey) → IsTrue (held key) → IsTrue (holds
 -- It tells what it signed, and calls a signature good only for what it signed.
 abbrev pub IsHonest : Says → Signed → Type 0
 IsHonest says signed = (pairs : List (PublicKey × List ℕ)) × (signed ≡ Some pairs)
-    × ((key : PublicKey) (message signature : List ℕ) → IsTrue (says key message signature) → Contains pairs (key, message))
+    × ((key : PublicKey) (message signature : List ℕ) → IsTrue (says key message signature)
+    → Contains pairs (key, message))
 
 abbrev pub KeepsHonest : Says → Signed → Says → Signed → Type 0
 KeepsHonest said was_signed says signed = IsHonest said was_signed → IsHonest says signed
@@ -72,7 +74,8 @@ pub record MakesKey (held holds : Holds) (form : KeyForm) (key : Key) : Type 0 w
   pub new_point : (other : PublicKey) → IsTrue (held other) → other.point ≢ key.point
 
 -- This message was signed with this key: the signature is good, and the pair stands at the end of what was signed.
-pub record Signs (says : Says) (was_signed signed : Signed) (key : PublicKey) (message signature : List ℕ) : Type 0 where
+pub record Signs (says : Says) (was_signed signed : Signed) (key : PublicKey) (message signature : List ℕ)
+  : Type 0 where
   pub size : IsTrue (is_within 1 512 (length signature))
   pub good : IsTrue (says key message signature)
   pub told : signed ≡ option_map (λ pairs. pairs ++ (key, message) ∷ []) was_signed

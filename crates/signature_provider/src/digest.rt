@@ -3,7 +3,8 @@ ghost use Rattle.std.specs.Prelude.{◌≡◌, ◌≢◌, ◌+◌, [], ◌∷◌
 ghost use Rattle.eac_base.specs.Causes.{HasCause};
 ghost use Rattle.signature_provider.specs.declared.provider.SignRefusal.TheVariants.{NoKey};
 ghost use Rattle.signature_provider.specs.Key.{is_form};
-ghost use Rattle.signature_provider.specs.Provider.{public_key, viewed_key, SaysMore, HoldsMore, KeepsHonest, MakesKey, Signs, SignCause, HeldWhere, UnheldFirst};
+ghost use Rattle.signature_provider.specs.Provider.{public_key, viewed_key, SaysMore, HoldsMore, KeepsHonest};
+ghost use Rattle.signature_provider.specs.Provider.{MakesKey, Signs, SignCause, HeldWhere, UnheldFirst};
 ghost use Rattle.signature_provider.specs.Instruments.{numbered_point, is_among, digest_signature, digest_says, untold};
 ghost use Rattle.signature_provider.specs.Instruments as words;
 
@@ -14,8 +15,9 @@ use sha2::{Digest, Sha256};
 use std::alloc::Global;
 use std::marker::Model;
 
-/// Signs by a digest over a secret, the key and the message. It needs no table, so what it says it says from the start,
-/// also for keys that it hasn't made. It doesn't tell what it signed, and never fails. It isn't printed, for its secret.
+/// Signs by a digest over a secret, the key and the message. It needs no table, so what it says it says from the
+/// start, also for keys that it hasn't made. It doesn't tell what it signed, and never fails. It isn't printed, for its
+/// secret.
 #[derive(Drop)]
 pub struct DigestProvider {
     secret: [u8; 32],
@@ -69,7 +71,8 @@ fn digest(secret: &[u8; 32], key: KeyView, first: &[u8], second: &[u8]) -> [u8; 
 // The signature of a message, which is good.
 fn sign_by(alloc: Global, secret: &[u8; 32], key: &Key, message: &[u8]) -> Result<Octets, NoMemory>
     ensures made { IfOk result (Signs (digest_says secret.now) untold untold (public_key key.now) message.now) }
-    ensures digest { IfOk result (λ signature. signature ≡ digest_signature secret.now (public_key key.now) message.now) }
+    ensures digest { IfOk result
+        (λ signature. signature ≡ digest_signature secret.now (public_key key.now) message.now) }
 {
     let signature = digest(secret, key.view(), &[], message);
     Octets::from_slice(alloc, signature.as_slice())
@@ -94,7 +97,8 @@ impl SignatureProvider for DigestProvider {
         ensures cause { SignCause 0 0 result }
         ensures key { result ≢ Err NoKey }
         // Its keys are numbered in the order of making.
-        ensures numbered { IfOk result (λ key. key.point ≡ numbered_point like.now.algorithm (length self.old.keys + 1)) }
+        ensures numbered { IfOk result
+            (λ key. key.point ≡ numbered_point like.now.algorithm (length self.old.keys + 1)) }
         ensures added { IfOk result (λ key. self.new.keys ≡ self.old.keys ++ public_key key ∷ []) }
         ensures kept { OnErr result (self.new ≡ self.old) }
         ensures secret { self.new.secret ≡ self.old.secret }
@@ -103,7 +107,8 @@ impl SignatureProvider for DigestProvider {
     }
 
     fn sign(&mut self, alloc: Global, key: &Key, message: &[u8]) -> Result<Octets, SignRefusal>
-        ensures made { IfOk result (Signs (digest_says self.new.secret) untold untold (public_key key.now) message.now) }
+        ensures made { IfOk result
+            (Signs (digest_says self.new.secret) untold untold (public_key key.now) message.now) }
         ensures says { SaysMore (digest_says self.old.secret) (digest_says self.new.secret) }
         ensures holds { HoldsMore (is_among self.old.keys) (is_among self.new.keys) }
         ensures refused { OnErr result (untold ≡ untold) }
@@ -112,7 +117,8 @@ impl SignatureProvider for DigestProvider {
         ensures key { HeldWhere (is_among self.old.keys (public_key key.now)) result }
         ensures unheld { UnheldFirst (is_among self.old.keys (public_key key.now)) result }
         // The signature is the digest, and nothing changes.
-        ensures digest { IfOk result (λ signature. signature ≡ digest_signature self.old.secret (public_key key.now) message.now) }
+        ensures digest { IfOk result
+            (λ signature. signature ≡ digest_signature self.old.secret (public_key key.now) message.now) }
         ensures unchanged { self.new ≡ self.old }
     {
         if !self.keys.has(key.view()) {
@@ -128,7 +134,8 @@ impl SignatureProvider for DigestProvider {
         second: &[u8],
         signature: &[u8],
     ) -> Result<bool, Failed>
-        ensures answer { IfOk result (λ yes. yes ≡ digest_says self.old.secret (viewed_key key.entry) (first.now ++ second.now) signature.now) }
+        ensures answer { IfOk result
+            (λ yes. yes ≡ digest_says self.old.secret (viewed_key key.entry) (first.now ++ second.now) signature.now) }
         ensures says { digest_says self.new.secret ≡ digest_says self.old.secret }
         ensures holds { is_among self.new.keys ≡ is_among self.old.keys }
         ensures signed { untold ≡ untold }

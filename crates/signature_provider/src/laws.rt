@@ -6,7 +6,8 @@ use crate::{DigestProvider, SignatureProvider, TableProvider};
 
 /// A table provider tells what it signed, and calls good only what it signed.
 pub fn table_is_honest(provider: &TableProvider)
-    ensures { IsHonest (⟦<TableProvider as SignatureProvider>⟧.says provider.now) (⟦<TableProvider as SignatureProvider>⟧.signed provider.now) }
+    ensures { IsHonest (⟦<TableProvider as SignatureProvider>⟧.says provider.now)
+        (⟦<TableProvider as SignatureProvider>⟧.signed provider.now) }
 {}
 
 /// A digest provider doesn't tell what it signed, and counts no fault.

@@ -2,8 +2,8 @@
 //!
 //! A [`Key`] has an algorithm, a public point and, for an elliptic key that names its curve itself, the domain
 //! parameters (BSI TR-03110-3, public keys for RSA and for elliptic curves). Each part is the encoding that stands in
-//! the key's data object, so that a key has one text. A [`KeyView`] is the same in borrowed bytes. A [`KeyForm`] is what
-//! a new key is made like. Which of these values are keys and forms, `specs/Key.antt` says.
+//! the key's data object, so that a key has one text. A [`KeyView`] is the same in borrowed bytes. A [`KeyForm`] is
+//! what a new key is made like. Which of these values are keys and forms, `specs/Key.antt` says.
 //!
 //! A [`SignatureProvider`] makes keys, signs and verifies. Its ghost members are what it says of signatures, which keys
 //! it holds, what it signed, and a count of faults; `specs/Provider.antt` says what each call does to them. Two

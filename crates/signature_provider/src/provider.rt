@@ -4,7 +4,8 @@ ghost use Rattle.std.specs.declared.option.Option.{Option};
 ghost use Rattle.eac_base.specs.Causes.{HasCause};
 ghost use Rattle.signature_provider.specs.declared.provider.SignRefusal.TheVariants.{NoKey};
 ghost use Rattle.signature_provider.specs.Key.{is_form};
-ghost use Rattle.signature_provider.specs.Provider.{PublicKey, public_key, viewed_key, SaysMore, HoldsMore, KeepsHonest, MakesKey, Signs, SignCause, HeldWhere};
+ghost use Rattle.signature_provider.specs.Provider.{PublicKey, public_key, viewed_key, MakesKey, Signs};
+ghost use Rattle.signature_provider.specs.Provider.{SaysMore, HoldsMore, KeepsHonest, SignCause, HeldWhere};
 
 use crate::{Key, KeyForm, KeyView};
 use eac_base::{Failed, NoMemory, Octets};
@@ -81,11 +82,12 @@ pub trait SignatureProvider {
     ///
     /// # Errors
     ///
-    /// `Failed` only where the count of faults rose in this call or stands at its last value. Else `NoKey` exactly where
-    /// the key isn't held, unless memory was wanting first, and `NoMemory`. What was signed stays as it was then. Any
-    /// other answer than `Failed` leaves the count.
+    /// `Failed` only where the count of faults rose in this call or stands at its last value. Else `NoKey` exactly
+    /// where the key isn't held, unless memory was wanting first, and `NoMemory`. What was signed stays as it was then.
+    /// Any other answer than `Failed` leaves the count.
     fn sign(&mut self, alloc: Global, key: &Key, message: &[u8]) -> Result<Octets, SignRefusal>
-        ensures made { IfOk result (Signs (says self.new) (signed self.old) (signed self.new) (public_key key.now) message.now) }
+        ensures made { IfOk result
+            (Signs (says self.new) (signed self.old) (signed self.new) (public_key key.now) message.now) }
         ensures says { SaysMore (says self.old) (says self.new) }
         ensures holds { HoldsMore (holds self.old) (holds self.new) }
         ensures refused { OnErr result (signed self.new ≡ signed self.old) }
@@ -93,8 +95,8 @@ pub trait SignatureProvider {
         ensures cause { SignCause (faults self.old) (faults self.new) result }
         ensures key { HeldWhere (holds self.old (public_key key.now)) result };
 
-    /// Whether the signature is good for the key and the message, which is `first` and then `second`. It changes nothing
-    /// but the count of faults, and takes no memory.
+    /// Whether the signature is good for the key and the message, which is `first` and then `second`. It changes
+    /// nothing but the count of faults, and takes no memory.
     ///
     /// # Errors
     ///
@@ -106,7 +108,8 @@ pub trait SignatureProvider {
         second: &[u8],
         signature: &[u8],
     ) -> Result<bool, Failed>
-        ensures answer { IfOk result (λ yes. yes ≡ says self.old (viewed_key key.entry) (first.now ++ second.now) signature.now) }
+        ensures answer { IfOk result
+            (λ yes. yes ≡ says self.old (viewed_key key.entry) (first.now ++ second.now) signature.now) }
         ensures says { says self.new ≡ says self.old }
         ensures holds { holds self.new ≡ holds self.old }
         ensures signed { signed self.new ≡ signed self.old }

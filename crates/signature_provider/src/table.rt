@@ -5,8 +5,10 @@ ghost use Rattle.eac_base.specs.Causes.{HasCause};
 ghost use Rattle.eac_base.specs.Planned.{IsPlanned};
 ghost use Rattle.signature_provider.specs.declared.provider.SignRefusal.TheVariants.{NoKey};
 ghost use Rattle.signature_provider.specs.Key.{is_form};
-ghost use Rattle.signature_provider.specs.Provider.{public_key, viewed_key, SaysMore, HoldsMore, KeepsHonest, MakesKey, Signs, SignCause, HeldWhere, UnheldFirst, has_failed};
-ghost use Rattle.signature_provider.specs.Instruments.{numbered_point, is_among, table_signature, is_row_of, table_says, IsCounted};
+ghost use Rattle.signature_provider.specs.Provider.{public_key, viewed_key, SaysMore, HoldsMore, KeepsHonest};
+ghost use Rattle.signature_provider.specs.Provider.{MakesKey, Signs, SignCause, HeldWhere, UnheldFirst, has_failed};
+ghost use Rattle.signature_provider.specs.Instruments.{numbered_point, is_among};
+ghost use Rattle.signature_provider.specs.Instruments.{table_signature, is_row_of, table_says, IsCounted};
 
 use crate::made_keys::{KeptKey, MadeKeys};
 use crate::planned::begin;
@@ -110,10 +112,13 @@ fn add_row(
     key: &Key,
     message: &[u8],
 ) -> Result<Octets, NoMemory>
-    ensures made { IfOk result (Signs (table_says rows.new.items) (Some rows.old.items) (Some rows.new.items) (public_key key.now) message.now) }
+    ensures made { IfOk result
+        (Signs (table_says rows.new.items) (Some rows.old.items) (Some rows.new.items)
+        (public_key key.now) message.now) }
     ensures signature { IfOk result (λ signature. signature ≡ table_signature (length rows.old.items + 1)) }
     ensures says { SaysMore (table_says rows.old.items) (table_says rows.new.items) }
-    ensures honest { KeepsHonest (table_says rows.old.items) (Some rows.old.items) (table_says rows.new.items) (Some rows.new.items) }
+    ensures honest { KeepsHonest (table_says rows.old.items) (Some rows.old.items)
+        (table_says rows.new.items) (Some rows.new.items) }
     ensures kept { OnErr result (rows.new.items ≡ rows.old.items) }
 {
     let number = rows.len() as u64 + 1;
@@ -141,14 +146,16 @@ impl SignatureProvider for TableProvider {
         ensures says { SaysMore (table_says self.old.rows) (table_says self.new.rows) }
         ensures holds { HoldsMore (is_among self.old.keys) (is_among self.new.keys) }
         ensures signed { Some self.new.rows ≡ Some self.old.rows }
-        ensures honest { KeepsHonest (table_says self.old.rows) (Some self.old.rows) (table_says self.new.rows) (Some self.new.rows) }
+        ensures honest { KeepsHonest (table_says self.old.rows) (Some self.old.rows)
+            (table_says self.new.rows) (Some self.new.rows) }
         ensures cause { SignCause self.old.faults self.new.faults result }
         ensures key { result ≢ Err NoKey }
         // It fails exactly where its plan says.
         ensures planned { IsTrue (has_failed result) ↔ IsPlanned self.old.plan self.old.calls }
         ensures counted { IsCounted self.old self.new (has_failed result) }
         // Its keys are numbered in the order of making.
-        ensures numbered { IfOk result (λ key. key.point ≡ numbered_point like.now.algorithm (length self.old.keys + 1)) }
+        ensures numbered { IfOk result
+            (λ key. key.point ≡ numbered_point like.now.algorithm (length self.old.keys + 1)) }
         ensures added { IfOk result (λ key. self.new.keys ≡ self.old.keys ++ public_key key ∷ []) }
         ensures kept { OnErr result (self.new.keys ≡ self.old.keys) }
         ensures rows { self.new.rows ≡ self.old.rows }
@@ -160,11 +167,14 @@ impl SignatureProvider for TableProvider {
     }
 
     fn sign(&mut self, alloc: Global, key: &Key, message: &[u8]) -> Result<Octets, SignRefusal>
-        ensures made { IfOk result (Signs (table_says self.new.rows) (Some self.old.rows) (Some self.new.rows) (public_key key.now) message.now) }
+        ensures made { IfOk result
+            (Signs (table_says self.new.rows) (Some self.old.rows) (Some self.new.rows)
+            (public_key key.now) message.now) }
         ensures says { SaysMore (table_says self.old.rows) (table_says self.new.rows) }
         ensures holds { HoldsMore (is_among self.old.keys) (is_among self.new.keys) }
         ensures refused { OnErr result (Some self.new.rows ≡ Some self.old.rows) }
-        ensures honest { KeepsHonest (table_says self.old.rows) (Some self.old.rows) (table_says self.new.rows) (Some self.new.rows) }
+        ensures honest { KeepsHonest (table_says self.old.rows) (Some self.old.rows)
+            (table_says self.new.rows) (Some self.new.rows) }
         ensures cause { SignCause self.old.faults self.new.faults result }
         ensures key { HeldWhere (is_among self.old.keys (public_key key.now)) result }
         ensures unheld { UnheldFirst (is_among self.old.keys (public_key key.now)) result }
@@ -191,7 +201,8 @@ impl SignatureProvider for TableProvider {
         second: &[u8],
         signature: &[u8],
     ) -> Result<bool, Failed>
-        ensures answer { IfOk result (λ yes. yes ≡ table_says self.old.rows (viewed_key key.entry) (first.now ++ second.now) signature.now) }
+        ensures answer { IfOk result
+            (λ yes. yes ≡ table_says self.old.rows (viewed_key key.entry) (first.now ++ second.now) signature.now) }
         ensures says { table_says self.new.rows ≡ table_says self.old.rows }
         ensures holds { is_among self.new.keys ≡ is_among self.old.keys }
         ensures signed { Some self.new.rows ≡ Some self.old.rows }

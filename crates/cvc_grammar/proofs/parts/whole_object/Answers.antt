@@ -1,6 +1,6 @@
 use Rattle.cvc_grammar.specs.Views.{part_of}
 use Rattle.cvc_grammar.proofs.Views.{whole_object}
-use Rattle.cvc_grammar.proofs.piece.whole_object.Goals as goal
+use Rattle.cvc_grammar.proofs.parts.whole_object.Goals as goal
 
 pub returns-clause-whole : goal.returns-clause-whole
 returns-clause-whole c =

@@ -10,15 +10,16 @@ use tlv_core::{Tag, next_object};
 
 /// A part of the input, and the place of its first byte there.
 #[derive(Clone, Copy)]
-pub struct Piece<'a> {
+pub struct Part<'a> {
     pub place: u64,
     pub bytes: &'a [u8],
 }
 
 /// The tag, the content and the rest.
-pub fn object_in<'a>(part: Piece<'a>) -> Result<(Tag, Piece<'a>, Piece<'a>), CvcRefusal>
+pub fn object_in<'a>(part: Part<'a>) -> Result<(Tag, Part<'a>, Part<'a>), CvcRefusal>
     requires { end_of part < 2 ^ 32 }
-    ensures exact { Reads (λ o. record { tag = o.0; content = part_of o.1; rest = part_of o.2 }) result (order.object_in (part_of part.entry)) }
+    ensures exact { Reads (λ o. record { tag = o.0; content = part_of o.1; rest = part_of o.2 })
+        result (order.object_in (part_of part.entry)) }
     ensures content { IfOk result (λ o. end_of o.1 ≤ end_of part.entry) }
     ensures rest { IfOk result (λ o. end_of o.2 ≤ end_of part.entry) }
 {
@@ -31,11 +32,11 @@ pub fn object_in<'a>(part: Piece<'a>) -> Result<(Tag, Piece<'a>, Piece<'a>), Cvc
             let after = part.place + (part.bytes.len() - rest.len()) as u64;
             Ok((
                 tag,
-                Piece {
+                Part {
                     place: after - content.len() as u64,
                     bytes: content,
                 },
-                Piece {
+                Part {
                     place: after,
                     bytes: rest,
                 },
@@ -45,9 +46,10 @@ pub fn object_in<'a>(part: Piece<'a>) -> Result<(Tag, Piece<'a>, Piece<'a>), Cvc
 }
 
 /// The content of the object at the front, which has to have this tag, and the rest.
-pub fn expected<'a>(tag: Tag, part: Piece<'a>) -> Result<(Piece<'a>, Piece<'a>), CvcRefusal>
+pub fn expected<'a>(tag: Tag, part: Part<'a>) -> Result<(Part<'a>, Part<'a>), CvcRefusal>
     requires { end_of part < 2 ^ 32 }
-    ensures exact { Reads (λ o. record { tag = tag; content = part_of o.0; rest = part_of o.1 }) result (order.expected tag (part_of part.entry)) }
+    ensures exact { Reads (λ o. record { tag = tag; content = part_of o.0; rest = part_of o.1 })
+        result (order.expected tag (part_of part.entry)) }
     ensures content { IfOk result (λ o. end_of o.0 ≤ end_of part.entry) }
     ensures rest { IfOk result (λ o. end_of o.1 ≤ end_of part.entry) }
 {
@@ -64,10 +66,11 @@ pub fn expected<'a>(tag: Tag, part: Piece<'a>) -> Result<(Piece<'a>, Piece<'a>),
 /// The content of the object at the front, which has to have this tag, the whole object and the rest.
 pub fn whole_object<'a>(
     tag: Tag,
-    part: Piece<'a>,
-) -> Result<(Piece<'a>, &'a [u8], Piece<'a>), CvcRefusal>
+    part: Part<'a>,
+) -> Result<(Part<'a>, &'a [u8], Part<'a>), CvcRefusal>
     requires { end_of part < 2 ^ 32 }
-    ensures exact { Reads (λ o. record { tag = tag; content = part_of o.0; rest = part_of o.2 }) result (order.expected tag (part_of part.entry)) }
+    ensures exact { Reads (λ o. record { tag = tag; content = part_of o.0; rest = part_of o.2 })
+        result (order.expected tag (part_of part.entry)) }
     ensures whole { IfOk result (λ o. o.1.now ≡ object tag o.0.bytes.now) }
     ensures content { IfOk result (λ o. end_of o.0 ≤ end_of part.entry) }
     ensures rest { IfOk result (λ o. end_of o.2 ≤ end_of part.entry) }
@@ -78,7 +81,7 @@ pub fn whole_object<'a>(
     Ok((content, whole, rest))
 }
 
-pub fn nothing_in(part: Piece) -> Result<(), CvcRefusal>
+pub fn nothing_in(part: Part) -> Result<(), CvcRefusal>
     ensures { Reads (λ _. tt) result (order.nothing_in (part_of part.entry)) }
 {
     match part.bytes {
