@@ -1,9 +1,9 @@
 -- What device calls leave of what holds for each image.
-use Rattle.std.proofs.Common.{◌≡◌, ◌≢◌, ◌⊎◌, inl, inr, ℕ, ◌+◌, ◌-◌, ◌^◌, ◌*◌, ◌<◌, ◌≤◌, List, [], ◌∷◌, length, Option, Some, None, Bool, true, false, refl, sym, ◌∙◌, ap, subst, arith, ⊎_elim}
+use Rattle.std.proofs.Common.{◌≡◌, ◌⊎◌, inl, inr, ℕ, ◌+◌, ◌-◌, ◌^◌, ◌<◌, ◌≤◌, List, [], Bool, true, false, refl, sym, ◌∙◌, ap, subst, arith, ⊎_elim}
 use Rattle.std.proofs.lemmas.Bool.{cases_lt}
 use Rattle.std.proofs.lemmas.List.{ext_get_or}
-use Rattle.chip_slots.specs.Crash.{Standing, Crash, is_among, Reads, Writes, Syncs, DeviceCall, AlwaysFrom}
-use Rattle.chip_slots.specs.Ready.{Works}
+use Rattle.chip_slots.specs.Crash.{Standing, Crash, is_among, Reads, Syncs, DeviceCall}
+use Rattle.chip_slots.specs.Ready.{EachImage}
 
 -- where nothing is pending, a crash leaves what a read gives
 pub clean_image : (s : Standing) (c : List ℕ) → s.pending ≡ [] → Crash s c → c ≡ s.bytes
@@ -18,7 +18,7 @@ at_moment told n m c is crash = subst (λ (k : ℕ). Crash (told k) c) is crash
 
 module _ (P : List ℕ → Type 0) where
   -- nothing is done yet
-  pub no_work : (told : ℕ → Standing) (n : ℕ) → ((c : List ℕ) → Crash (told n) c → P c) → Works P told told n n
+  pub no_work : (told : ℕ → Standing) (n : ℕ) → ((c : List ℕ) → Crash (told n) c → P c) → EachImage P told told n n
   no_work told n each = record {
     later = omega arith;
     keeps = λ m le. refl;
@@ -26,7 +26,7 @@ module _ (P : List ℕ → Type 0) where
   }
 
   -- one piece of work after another
-  pub works_then : (past mid told : ℕ → Standing) (a b c : ℕ) → Works P past mid a b → Works P mid told b c → Works P past told a c
+  pub works_then : (past mid told : ℕ → Standing) (a b c : ℕ) → EachImage P past mid a b → EachImage P mid told b c → EachImage P past told a c
   works_then past mid told a b c first next = record {
     later = omega (arith, first.later, next.later);
     keeps = λ m le. next.keeps m (omega (arith, le, first.later)) ∙ first.keeps m le;
@@ -37,7 +37,7 @@ module _ (P : List ℕ → Type 0) where
   }
 
   -- one more device call: its images are so at the moment after it
-  pub one_more : (past mid told : ℕ → Standing) (a b c : ℕ) (ok : Bool) (step : Standing → Standing → Type 0) → Works P past mid a b → DeviceCall ok step b c mid told → ((s : Standing) (i : List ℕ) → step (mid b) s → Crash s i → P i) → Works P past told a c
+  pub one_more : (past mid told : ℕ → Standing) (a b c : ℕ) (ok : Bool) (step : Standing → Standing → Type 0) → EachImage P past mid a b → DeviceCall ok step b c mid told → ((s : Standing) (i : List ℕ) → step (mid b) s → Crash s i → P i) → EachImage P past told a c
   one_more past mid told a b c ok step work call after = record {
     later = go (cases_of call.steps);
     keeps = λ m le. call.keeps m (omega (arith, le, work.later)) ∙ work.keeps m le;
@@ -57,12 +57,12 @@ module _ (P : List ℕ → Type 0) where
       go : b ≤ c → a ≤ c
       go le = omega (arith, le, work.later)
 
-  pub then_read : (past mid told : ℕ → Standing) (a b c : ℕ) (ok : Bool) → Works P past mid a b → DeviceCall ok Reads b c mid told → Works P past told a c
+  pub then_read : (past mid told : ℕ → Standing) (a b c : ℕ) (ok : Bool) → EachImage P past mid a b → DeviceCall ok Reads b c mid told → EachImage P past told a c
   then_read past mid told a b c ok work call = one_more past mid told a b c ok Reads work call (λ s i step crash.
       work.images b i work.later (omega arith) (subst (λ (z : Standing). Crash z i) step crash))
 
   -- a sync adds no image
-  pub then_sync : (past mid told : ℕ → Standing) (a b c : ℕ) (ok : Bool) → Works P past mid a b → DeviceCall ok (Syncs ok) b c mid told → Works P past told a c
+  pub then_sync : (past mid told : ℕ → Standing) (a b c : ℕ) (ok : Bool) → EachImage P past mid a b → DeviceCall ok (Syncs ok) b c mid told → EachImage P past told a c
   then_sync past mid told a b c ok work call = one_more past mid told a b c ok (Syncs ok) work call (λ s i step crash. go ok s i step crash)
     where
       go : (t : Bool) (s : Standing) (i : List ℕ) → Syncs t (mid b) s → Crash s i → P i
@@ -80,5 +80,5 @@ done_call step past told before now call = go call.steps
     go (inr stop) = absurd (cc (stop.2))
 
 -- what holds of each image may be weakened
-pub works_map : (P Q : List ℕ → Type 0) → ((c : List ℕ) → P c → Q c) → (past told : ℕ → Standing) (a b : ℕ) → Works P past told a b → Works Q past told a b
+pub works_map : (P Q : List ℕ → Type 0) → ((c : List ℕ) → P c → Q c) → (past told : ℕ → Standing) (a b : ℕ) → EachImage P past told a b → EachImage Q past told a b
 works_map P Q f past told a b work = record { later = work.later; keeps = work.keeps; images = λ m c from to crash. f c (work.images m c from to crash) }

@@ -1,5 +1,5 @@
 -- What an import answers is what the act of these bytes does.
-use Rattle.std.proofs.Common.{◌≡◌, ◌≢◌, ◌⊎◌, inl, inr, ℕ, ◌+◌, List, Option, Some, None, Result, Ok, Err, Bool, true, false, cond, refl, sym, ◌∙◌, ap, subst}
+use Rattle.std.proofs.Common.{◌≡◌, inl, inr, ℕ, List, Option, Some, None, Result, Ok, Err, Bool, true, false, cond, refl, sym, ◌∙◌, ap, subst}
 use Rattle.std.specs.Prelude.{is_some, not, ◌||◌}
 use Rattle.cvc_grammar.specs.ReadingOrder.{read_cert}
 use Rattle.cvc_grammar.specs.declared.certificate.Cert.{Cert}
@@ -7,19 +7,18 @@ use Rattle.cvc_grammar.specs.declared.refusal.CvcRefusal.{CvcRefusal}
 use Rattle.signature_provider.specs.Provider.{Says}
 use Rattle.chip_verify.specs.declared.answers.ImportRefusal.{ImportRefusal}
 use Rattle.chip_verify.specs.declared.answers.Imported.{Imported}
-use Rattle.chip_verify.specs.declared.answers.Checked.{Checked}
 use Rattle.chip_verify.specs.declared.answers.Checked.TheVariants as checks
 use Rattle.chip_verify.specs.declared.answers.Judged.{Judged}
 use Rattle.chip_verify.specs.declared.answers.Judged.TheVariants as judges
 use Rattle.chip_verify.specs.Trust.{Trust}
 use Rattle.chip_verify.specs.Session.{SessionValue}
-use Rattle.chip_verify.specs.Refusals.{Issuer, is_held, refusal_of, issuer_of, refused_or_ask, checked}
-use Rattle.chip_verify.specs.Step.{Judges, IsUnsigned, verdict_on}
+use Rattle.chip_verify.specs.Refusals.{is_held, refusal_of, issuer_of, refused_or_ask, checked}
+use Rattle.chip_verify.specs.Step.{Judges, verdict_on}
 use Rattle.chip_slots.specs.declared.answers.ChipRefusal.{ChipRefusal}
 use Rattle.chip_slots.specs.declared.answers.ChipRefusal.TheVariants as refusal
 use Rattle.chip_slots.specs.Crash.{Standing}
 use Rattle.chip_slots.specs.Acts.{Given, moved, given, does}
-use Rattle.chip_slots.specs.Chips.{ChipValue, read_as, in_session, in_state, MovesSession, MovesState, Breaks, Moves, Settles, IsJudged, IsUnheard, Takes, TakesRead, ImportsWhere, Imports}
+use Rattle.chip_slots.specs.Chips.{ChipValue, Follows, ImportsRead, ImportsWhere, Imports}
 use Rattle.chip_slots.specs.ActsOf.{verdict_read, verdict_of, IsActOf}
 
 -- ---- what is judged
@@ -87,10 +86,10 @@ module _ (tells : Type 0) (past told : ℕ → Standing) (from to : ℕ) (says :
   same_chip : c' ≡ c → stood c ≡ stood c'
   same_chip is = ap stood (sym is)
 
-  settled_act : (cert : Cert) (judged : Judged) (result : Result Imported ChipRefusal) → Judges says c.state c.session cert judged → Settles tells past told from to c judged result c' → IsActOf tells past told from to c result (Some (given c.state c.session (Ok cert) (verdict_on says c.state c.session cert))) c'
+  settled_act : (cert : Cert) (judged : Judged) (result : Result Imported ChipRefusal) → Judges says c.state c.session cert judged → Follows tells past told from to c judged result c' → IsActOf tells past told from to c result (Some (given c.state c.session (Ok cert) (verdict_on says c.state c.session cert))) c'
   settled_act cert judged result j settles = subst (λ (p : Trust × SessionValue). IsActOf tells past told from to c result (Some p) c') (sym (judged_does says c.state c.session cert judged j)) (go judged result settles)
     where
-      go : (d : Judged) (r : Result Imported ChipRefusal) → Settles tells past told from to c d r c' → IsActOf tells past told from to c r (Some (next_of d c.state c.session)) c'
+      go : (d : Judged) (r : Result Imported ChipRefusal) → Follows tells past told from to c d r c' → IsActOf tells past told from to c r (Some (next_of d c.state c.session)) c'
       go judges.Held r x = subst (λ (q : Result Imported ChipRefusal). IsActOf tells past told from to c q (Some (c.state, c.session)) c') (sym x.0) (same_chip x.1)
       go (judges.Refused k) r x = subst (λ (q : Result Imported ChipRefusal). IsActOf tells past told from to c q (Some (c.state, c.session)) c') (sym x.0) (same_chip x.1)
       go (judges.Next t s what) (Ok w) (w_is, inl x) =
@@ -104,8 +103,8 @@ module _ (tells : Type 0) (past told : ℕ → Standing) (from to : ℕ) (says :
       go (judges.Next t s what) (Err (refusal.Syntax e)) x = absurd x
       go (judges.Next t s what) (Err (refusal.Refused k)) x = absurd x
 
-  taken_act : (read : Result Cert CvcRefusal) (result : Result Imported ChipRefusal) → TakesRead tells past told from to says c read result c' → IsActOf tells past told from to c result (Some (given c.state c.session read (verdict_read says c read))) c'
-  taken_act (Ok cert) result (inl j) = settled_act cert j.judged result j.judges j.settles
+  taken_act : (read : Result Cert CvcRefusal) (result : Result Imported ChipRefusal) → ImportsRead tells past told from to says c read result c' → IsActOf tells past told from to c result (Some (given c.state c.session read (verdict_read says c read))) c'
+  taken_act (Ok cert) result (inl j) = settled_act cert j.judged result j.judges j.follows
   taken_act (Ok cert) result (inr u) = subst (λ (q : Result Imported ChipRefusal). IsActOf tells past told from to c q (Some (given c.state c.session (Ok cert) (verdict_on says c.state c.session cert))) c') (sym u.answer) tt
   taken_act (Err e) result x = subst (λ (q : Result Imported ChipRefusal). IsActOf tells past told from to c q (Some (c.state, c.session)) c') (sym x.0) (same_chip x.1)
 

@@ -1,6 +1,6 @@
 -- After more acts a chip's trust is a later one, and so is what an image reads as.
-use Rattle.std.proofs.Common.{◌≡◌, ◌⊎◌, inl, inr, ℕ, ◌≤◌, ◌<◌, List, [], ◌∷◌, ◌++◌, Option, Some, None, Result, Ok, Err, Bool, true, false, cond, refl, sym, ◌∙◌, ap, subst, arith}
-use Rattle.std.specs.Prelude.{is_some, not, ◌||◌, option_map}
+use Rattle.std.proofs.Common.{◌≡◌, inl, inr, ℕ, List, [], ◌∷◌, ◌++◌, Option, Some, None, Result, Ok, Err, Bool, true, false, cond, refl, sym, ◌∙◌, ap, subst}
+use Rattle.std.specs.Prelude.{is_some, not, ◌||◌}
 use Rattle.cvc_grammar.specs.ReadingOrder.{read_cert}
 use Rattle.cvc_grammar.specs.declared.certificate.Cert.{Cert}
 use Rattle.cvc_grammar.specs.declared.certificate.CertBody.{CertBody}
@@ -12,7 +12,7 @@ use Rattle.chip_verify.specs.Session.{SessionValue, no_session}
 use Rattle.chip_verify.specs.Later.{Later, IsAmong}
 use Rattle.chip_verify.specs.Refusals.{Issuer, sort_of, issuer_of, is_held, refusal_of}
 use Rattle.chip_verify.specs.Step.{Step, trust_after, session_after}
-use Rattle.chip_slots.specs.Acts.{Deed, Made, Opened, Given, Settling, Act, moved, given, does, after, trust_of, MayStand, IsTaken, IsSure, IsMaking, NoMaking}
+use Rattle.chip_slots.specs.Acts.{Deed, Made, Opened, Given, Act, moved, given, does, after, trust_of, IsTaken, IsSure, IsMaking, NoMaking}
 use Rattle.chip_slots.specs.Moments.{MayRead}
 use Rattle.chip_slots.proofs.RunsOfActs.{not_sure}
 

@@ -1,6 +1,9 @@
+pub mod BigEndian
+pub mod ChipRuns
 pub mod DeviceWork
 pub mod Greatest
 pub mod ImportActs
+pub mod ImportOutcomes
 pub mod LaterActs
 pub mod Looking
 pub mod NewState

@@ -1,9 +1,8 @@
 -- A memory is read: the disk stands as it stood.
-use Rattle.std.proofs.Common.{◌≡◌, ◌≢◌, ◌⊎◌, inl, inr, ℕ, zero, suc, ◌+◌, ◌-◌, ◌^◌, ◌<◌, ◌≤◌, List, Bool, true, false, refl, sym, ◌∙◌, ap, subst, arith, ⊎_elim}
+use Rattle.std.proofs.Common.{◌≡◌, ◌⊎◌, inl, inr, ℕ, suc, ◌+◌, ◌-◌, ◌^◌, ◌<◌, ◌≤◌, Bool, true, false, refl, ◌∙◌, ap, subst, arith, ⊎_elim}
 use Rattle.chip_slots.specs.Crash.{Standing, Crash, Reads, Syncs, DeviceCall}
 use Rattle.std.proofs.lemmas.Bool.{cases_lt}
 use Rattle.chip_slots.specs.Image.{Reading, newer, greatest, slot_says}
-use Rattle.chip_slots.specs.Ready.{Works}
 use Rattle.chip_slots.specs.Found.{Stays, IsLookedAt, IsFoundIn}
 use Rattle.chip_slots.proofs.DeviceWork.{no_work, then_sync, works_then, works_map}
 

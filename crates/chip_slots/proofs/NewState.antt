@@ -1,13 +1,13 @@
 -- The images while a gate is closed, a record is written behind it and the gate is opened again, and what stands then.
-use Rattle.std.proofs.Common.{◌≡◌, ◌≢◌, ◌⊎◌, inl, inr, ℕ, ◌+◌, ◌*◌, ◌/◌, ◌%◌, ◌<◌, ◌≤◌, List, [], ◌∷◌, ◌++◌, length, take, drop, get_or, Option, Some, None, Result, Ok, Err, Bool, true, false, refl, sym, ◌∙◌, ap, subst, arith, length-take, length-drop, get_or-take, get_or-drop, take-append-drop}
+use Rattle.std.proofs.Common.{◌≡◌, inl, ℕ, ◌+◌, ◌*◌, ◌/◌, ◌<◌, ◌≤◌, List, [], ◌∷◌, ◌++◌, length, take, drop, get_or, Some, Result, Ok, Err, Bool, true, refl, sym, ◌∙◌, ap, subst, arith, length-take, length-drop, get_or-take, get_or-drop, take-append-drop}
 use Rattle.std.proofs.lemmas.List.{ext_get_or}
 use Rattle.std.specs.Prelude.{slice_index, is_ok, OnOk}
 use Rattle.chip_verify.specs.Trust.{Trust}
 use Rattle.chip_slots.specs.Slot.{record_of}
 use Rattle.chip_slots.specs.Image.{Reading, is_memory, slots_in, gate, behind_gate, is_open, reads}
 use Rattle.chip_slots.specs.Crash.{Standing, Crash, Reads, Writes, Syncs, DeviceCall}
-use Rattle.chip_slots.specs.Ready.{Works, ReadsAs, ReadsEither, IsApart, IsMore, IsSpare, IsFree, IsReady, AreRecord, IsStable}
-use Rattle.chip_slots.proofs.SlotWrites.{closing, opening, seen_open, filling, still_closed}
+use Rattle.chip_slots.specs.Ready.{EachImage, ReadsAs, ReadsEither, IsApart, IsMore, IsSpare, IsFree, IsReady, AreRecord, IsStable}
+use Rattle.chip_slots.proofs.SlotWrites.{closing, opening, seen_open, filling}
 use Rattle.chip_slots.proofs.DeviceWork.{clean_image, own_image, no_work, one_more, done_call}
 
 -- ---- before and after
@@ -33,7 +33,7 @@ still_spare slot old before s t spare size read synced =
 
 -- ---- a gate is closed
 
-pub close_write : (slot : ℕ) (old : Reading) (past told : ℕ → Standing) (before now : ℕ) (ok : Bool) → IsSpare slot old (past before) → is_open (gate (past before).bytes slot) ≡ true → DeviceCall ok (Writes (8192 * slot) (0 ∷ []) ok) before now past told → Works (ReadsAs old) past told before now
+pub close_write : (slot : ℕ) (old : Reading) (past told : ℕ → Standing) (before now : ℕ) (ok : Bool) → IsSpare slot old (past before) → is_open (gate (past before).bytes slot) ≡ true → DeviceCall ok (Writes (8192 * slot) (0 ∷ []) ok) before now past told → EachImage (ReadsAs old) past told before now
 close_write slot old past told before now ok spare open_is call =
     one_more (ReadsAs old) past past told before before now ok (Writes (8192 * slot) (0 ∷ []) ok) (no_work (ReadsAs old) past before (spare_image slot old (past before) spare)) call
     (λ s i wrote crash. closing slot old (past before) s i spare ok crash 0 wrote open_is)
@@ -52,7 +52,7 @@ closed_now slot old past mid told before next now spare open_is wrote_call sync_
 
 -- ---- a record is written
 
-pub fill_write : (slot : ℕ) (old : Reading) (bytes : List ℕ) (past told : ℕ → Standing) (before now : ℕ) (ok : Bool) → length bytes ≤ 8191 → IsFree slot old (past before) → DeviceCall ok (Writes (8192 * slot + 1) bytes ok) before now past told → Works (ReadsAs old) past told before now
+pub fill_write : (slot : ℕ) (old : Reading) (bytes : List ℕ) (past told : ℕ → Standing) (before now : ℕ) (ok : Bool) → length bytes ≤ 8191 → IsFree slot old (past before) → DeviceCall ok (Writes (8192 * slot + 1) bytes ok) before now past told → EachImage (ReadsAs old) past told before now
 fill_write slot old bytes past told before now ok short free call =
     one_more (ReadsAs old) past past told before before now ok (Writes (8192 * slot + 1) bytes ok) (no_work (ReadsAs old) past before (spare_image slot old (past before) free.spare)) call
     (λ s i wrote crash. filling slot old (past before) s i free.spare ok crash bytes short wrote free.closed)
@@ -91,7 +91,7 @@ filled_now slot old y bytes past mid told before next now short free says wrote_
 
 -- ---- the gate is opened
 
-pub open_write : (slot : ℕ) (old : Reading) (y : Trust × ℕ) (past told : ℕ → Standing) (before now : ℕ) (ok : Bool) → IsReady slot old y (past before) → IsMore old y → DeviceCall ok (Writes (8192 * slot) (165 ∷ []) ok) before now past told → Works (ReadsEither old (Some y)) past told before now
+pub open_write : (slot : ℕ) (old : Reading) (y : Trust × ℕ) (past told : ℕ → Standing) (before now : ℕ) (ok : Bool) → IsReady slot old y (past before) → IsMore old y → DeviceCall ok (Writes (8192 * slot) (165 ∷ []) ok) before now past told → EachImage (ReadsEither old (Some y)) past told before now
 open_write slot old y past told before now ok ready more call =
     one_more (ReadsEither old (Some y)) past past told before before now ok (Writes (8192 * slot) (165 ∷ []) ok) (no_work (ReadsEither old (Some y)) past before (λ c crash. inl (spare_image slot old (past before) ready.spare c crash))) call
     (λ s i wrote crash. opening slot old (past before) s i ready.spare ok crash 165 wrote y ready.filled more)

@@ -1,5 +1,5 @@
 -- The slot of a generation that follows what is read is spare, and the record belongs there.
-use Rattle.std.proofs.Common.{◌≡◌, ◌≢◌, ◌⊎◌, inl, inr, ℕ, zero, suc, ◌+◌, ◌*◌, ◌/◌, ◌%◌, ◌^◌, ◌<◌, ◌≤◌, List, [], ◌∷◌, ◌++◌, length, Option, Some, None, Bool, true, false, IsTrue, refl, sym, ◌∙◌, ap, subst, arith, ⊎_elim}
+use Rattle.std.proofs.Common.{◌≡◌, ◌≢◌, ◌⊎◌, inl, ℕ, suc, ◌/◌, ◌%◌, ◌^◌, ◌<◌, ◌≤◌, List, ◌++◌, length, Some, None, Bool, true, false, IsTrue, refl, sym, ◌∙◌, ap, subst, arith, ⊎_elim}
 use Rattle.std.proofs.lemmas.Bool.{cases_lt}
 use Rattle.std.proofs.lemmas.Bool.Decides.{nat_tests}
 use Rattle.std.proofs.Math.Nat.{suc-mod, mod-lt, mod-eq_of_lt, mod_self}
@@ -9,7 +9,7 @@ use Rattle.chip_verify.specs.Trust.{Trust}
 use Rattle.chip_slots.specs.Slot.{is_kept_trust, record_text, record_of}
 use Rattle.chip_slots.specs.Image.{Reading, is_memory, slots_in, reads}
 use Rattle.chip_slots.specs.Crash.{Standing}
-use Rattle.chip_slots.specs.Ready.{Works, ReadsEither, IsApart, IsMore, IsSpare, AreRecord, IsStable, IsFollowing}
+use Rattle.chip_slots.specs.Ready.{EachImage, ReadsEither, IsApart, IsMore, IsSpare, AreRecord, IsStable, IsFollowing}
 use Rattle.chip_slots.specs.Found.{IsFoundIn}
 use Rattle.chip_verify.specs.Session.{SessionValue}
 use Rattle.chip_slots.specs.Chips.{ChipValue, in_session}
@@ -28,14 +28,14 @@ and_right false b is = absurd (cc (is))
 
 pub at_least_two : (size : ℕ) → is_memory size ≡ true → 2 ≤ size / 8192
 at_least_two size is =
-    let within : is_within 2 16 (size / 8192) ≡ true = and_right _ _ is in
-    let low : nat_le 2 (size / 8192) ≡ true = and_left _ _ within in
+    let within : is_within 2 16 (size / 8192) ≡ true = and_right (size % 8192 == 0) (is_within 2 16 (size / 8192)) is in
+    let low : nat_le 2 (size / 8192) ≡ true = and_left (nat_le 2 (size / 8192)) (nat_le (size / 8192) 16) within in
     grind (arith, nat_tests)
 
 pub at_most_sixteen : (size : ℕ) → is_memory size ≡ true → size / 8192 ≤ 16
 at_most_sixteen size is =
-    let within : is_within 2 16 (size / 8192) ≡ true = and_right _ _ is in
-    let high : nat_le (size / 8192) 16 ≡ true = and_right _ _ within in
+    let within : is_within 2 16 (size / 8192) ≡ true = and_right (size % 8192 == 0) (is_within 2 16 (size / 8192)) is in
+    let high : nat_le (size / 8192) 16 ≡ true = and_right (nat_le 2 (size / 8192)) (nat_le (size / 8192) 16) within in
     grind (arith, nat_tests)
 
 -- two generations in turn go to two slots
@@ -89,14 +89,14 @@ record_for s size generation slots t bytes is are small kept text rest =
 
 -- ---- the state that follows, by its generation
 
-pub works_next : (old : Reading) (t : Trust) (n m : ℕ) (past told : ℕ → Standing) (from to : ℕ) → n ≡ m → Works (ReadsEither old (Some (t, n))) past told from to → Works (ReadsEither old (Some (t, m))) past told from to
-works_next old t n m past told from to is works = subst (λ (k : ℕ). Works (ReadsEither old (Some (t, k))) past told from to) is works
+pub works_next : (old : Reading) (t : Trust) (n m : ℕ) (past told : ℕ → Standing) (from to : ℕ) → n ≡ m → EachImage (ReadsEither old (Some (t, n))) past told from to → EachImage (ReadsEither old (Some (t, m))) past told from to
+works_next old t n m past told from to is works = subst (λ (k : ℕ). EachImage (ReadsEither old (Some (t, k))) past told from to) is works
 
 pub stable_next : (t : Trust) (n m : ℕ) (s : Standing) → n ≡ m → IsStable (Some (t, n)) s → IsStable (Some (t, m)) s
 stable_next t n m s is stable = subst (λ (k : ℕ). IsStable (Some (t, k)) s) is stable
 
 -- nothing is done to the disk
-pub idle_works : (old : Reading) (told : ℕ → Standing) (n : ℕ) → IsStable old (told n) → Works (ReadsEither old old) told told n n
+pub idle_works : (old : Reading) (told : ℕ → Standing) (n : ℕ) → IsStable old (told n) → EachImage (ReadsEither old old) told told n n
 idle_works old told n stable = no_work (ReadsEither old old) told n (λ c crash. inl (ap reads (clean_image (told n) c stable.clean crash) ∙ stable.read))
 
 -- a memory that was found empty is stable

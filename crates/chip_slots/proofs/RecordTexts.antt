@@ -1,5 +1,5 @@
 -- What was written of a record is read, whatever stands behind it.
-use Rattle.std.proofs.Common.{◌≡◌, ℕ, zero, suc, ◌+◌, ◌*◌, ◌/◌, ◌%◌, ◌^◌, ◌<◌, ◌≤◌, List, [], ◌∷◌, ◌++◌, length, take, drop, Option, Some, None, Bool, true, false, IsTrue, refl, sym, ◌∙◌, ap, subst, arith, length-append}
+use Rattle.std.proofs.Common.{◌≡◌, ℕ, zero, suc, ◌+◌, ◌*◌, ◌/◌, ◌%◌, ◌^◌, ◌<◌, ◌≤◌, List, [], ◌∷◌, ◌++◌, length, take, drop, Option, Some, None, Bool, true, false, refl, sym, ◌∙◌, ap, arith, length-append}
 use Rattle.std.proofs.lemmas.Bool.Decides.{nat_tests}
 use Rattle.std.proofs.lemmas.List.{append_assoc}
 use Rattle.std.proofs.Math.Seq.{take-append_seam, drop-append_seam}
@@ -8,19 +8,17 @@ use Rattle.std.specs.Prelude.{◌==◌, ◌&&◌, not, nat_lt, nat_le}
 use Rattle.eac_base.specs.Answers.{◌gives◌}
 use Rattle.eac_base.specs.Bytes.{big_endian, number_after, number_of, is_within, is_empty}
 use Rattle.holder_reference.specs.Reference.{is_reference}
-use Rattle.cv_dates.specs.Calendar.{last_day}
 use Rattle.chat_rights.specs.declared.Kind.{Kind}
 use Rattle.chat_rights.specs.declared.Kind.TheVariants.{Inspection}
 use Rattle.chat_rights.specs.declared.Role.{Role}
 use Rattle.chat_rights.specs.declared.Role.TheVariants.{Cvca, Domestic, Foreign, Terminal}
-use Rattle.chat_rights.specs.declared.Template.{Template}
 use Rattle.chat_rights.specs.Template.{role_number, template_byte}
 use Rattle.signature_provider.specs.declared.key.Algorithm.{Algorithm}
 use Rattle.signature_provider.specs.Key.{is_algorithm}
 use Rattle.signature_provider.specs.Provider.{PublicKey}
 use Rattle.chip_verify.specs.declared.trust_point.TrustPoint.{TrustPoint}
 use Rattle.chip_verify.specs.Trust.{Trust}
-use Rattle.chip_slots.specs.Slot.{is_cvca, is_day, is_kept_key, is_kept_point, comes_before, are_kept_points, is_kept_trust, counted, key_text, point_text, points_text, record_text, only, bytes_in, number_in, counted_in, reference_in, authority_in, day_in, algorithm_in, part_in, key_in, point_in, two_points_in, one_point_in, points_in, trust_in, record_of}
+use Rattle.chip_slots.specs.Slot.{is_cvca, is_day, is_kept_key, is_kept_point, comes_before, are_kept_points, is_kept_trust, counted, key_text, point_text, points_text, record_text, only, bytes_in, number_in, counted_in, reference_in, authority_in, day_in, algorithm_in, part_in, key_in, point_in, points_in, trust_in, record_of}
 
 -- ---- tests
 

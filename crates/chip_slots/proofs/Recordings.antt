@@ -1,13 +1,13 @@
 -- One more call at the end of what a disk in memory has written down.
-use Rattle.std.proofs.Common.{◌≡◌, ◌≢◌, ◌⊎◌, inl, inr, ℕ, zero, suc, ◌+◌, ◌-◌, ◌<◌, ◌≤◌, List, [], ◌∷◌, ◌++◌, length, take, drop, get_or, Option, Some, None, Result, Ok, Err, ◌↔◌, IsTrue, Bool, true, false, refl, sym, ◌∙◌, ap, subst, arith, ⊎_elim, length-drop, length-append, take_all, drop-drop}
+use Rattle.std.proofs.Common.{◌≡◌, ◌⊎◌, inl, inr, ℕ, zero, suc, ◌+◌, ◌<◌, ◌≤◌, List, [], ◌∷◌, ◌++◌, length, take, drop, Option, Some, None, Result, Ok, Err, ◌↔◌, IsTrue, Bool, true, false, refl, sym, ◌∙◌, ap, subst, arith, ⊎_elim, length-drop, length-append, take_all, drop-drop}
 use Rattle.std.proofs.lemmas.Bool.{cases_lt}
 use Rattle.std.proofs.lemmas.Bool.Decides.{nat_tests}
 use Rattle.std.proofs.lemmas.List.{take-append-le, drop-append-le, append-nil, length_push}
 use Rattle.std.proofs.Math.Seq.{take-length}
 use borrow.Rule.Slice.PartMut.{put_mid}
 use Rattle.std.specs.Prelude.{slice_index, option_map, IfSome, is_ok, IsErr}
-use Rattle.chip_slots.specs.declared.memory_disk.Step.{Step}
-use Rattle.chip_slots.specs.declared.memory_disk.Step.TheVariants as step
+use Rattle.chip_slots.specs.declared.disk.memory.Step.{Step}
+use Rattle.chip_slots.specs.declared.disk.memory.Step.TheVariants as step
 use Rattle.chip_slots.specs.Crash.{Standing, is_among, Reads, Writes, Syncs, DeviceCall}
 use Rattle.chip_slots.specs.Recorded.{Did, Idle, Wrote, Torn, Synced, over, put, after_call, played, fresh, DiskValue, told_by, stands_now, IsSame, IsCounted, writing, syncing}
 use Rattle.chip_slots.specs.RecordedSizes.{played_size, put_size}

@@ -1,7 +1,7 @@
 -- What is read of a record.
-use Rattle.std.proofs.Common.{◌≡◌, ℕ, ◌+◌, ◌*◌, ◌/◌, ◌%◌, ◌<◌, ◌≤◌, List, [], ◌∷◌, ◌++◌, length, take, drop, Option, Some, None, Bool, true, false, refl, sym, ◌∙◌, ap, subst, arith}
+use Rattle.std.proofs.Common.{◌≡◌, ℕ, ◌%◌, List, Option, Some, None, Bool, true, false, refl, sym, ◌∙◌, ap, arith}
 use Rattle.std.proofs.lemmas.Bool.Decides.{nat_tests}
-use Rattle.std.specs.Prelude.{◌==◌, nat_lt, nat_le}
+use Rattle.std.specs.Prelude.{◌==◌}
 use Rattle.eac_base.specs.Answers.{◌gives◌}
 use Rattle.chip_verify.specs.Trust.{Trust}
 use Rattle.chip_slots.specs.Slot.{only, number_in, trust_in, record_of}

@@ -1,10 +1,10 @@
 -- Calls that are played again, one by one, and the bytes that are torn then.
-use Rattle.std.proofs.Common.{◌≡◌, ◌⊎◌, ℕ, zero, suc, ◌+◌, ◌-◌, ◌<◌, ◌≤◌, List, [], ◌∷◌, ◌++◌, length, take, drop, set, get_or, reverse, replicate, Bool, true, false, Result, Ok, Err, refl, sym, ◌∙◌, ap, subst, arith, length-drop, length-take, drop-drop}
+use Rattle.std.proofs.Common.{◌≡◌, ◌⊎◌, ℕ, zero, suc, ◌+◌, ◌<◌, ◌≤◌, List, [], ◌∷◌, ◌++◌, length, take, drop, set, get_or, reverse, replicate, Bool, true, false, Result, Ok, Err, refl, sym, ◌∙◌, ap, subst, arith, length-drop, length-take, drop-drop}
 use Rattle.std.proofs.lemmas.List.{reverse-append}
-use Rattle.std.proofs.Math.Seq.{take-suc, take-length}
-use Rattle.chip_slots.specs.declared.memory_disk.Step.{Step}
-use Rattle.chip_slots.specs.declared.memory_disk.Step.TheVariants as step
-use Rattle.chip_slots.specs.declared.replay.Replayed.{Replayed}
+use Rattle.std.proofs.Math.Seq.{take-suc}
+use Rattle.chip_slots.specs.declared.disk.memory.Step.{Step}
+use Rattle.chip_slots.specs.declared.disk.memory.Step.TheVariants as step
+use Rattle.chip_slots.specs.declared.disk.replay.Replayed.{Replayed}
 use Rattle.std.proofs.lemmas.List.{length-replicate}
 use Rattle.std.specs.Prelude.{◌||◌, slice_index, IfOk}
 use Rattle.chip_slots.specs.Crash.{Standing, Crash, is_among}

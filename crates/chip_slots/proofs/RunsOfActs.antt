@@ -1,15 +1,14 @@
 -- A run of acts on a chip: what each image at each moment reads as, carried from act to act.
-use Rattle.std.proofs.Common.{◌≡◌, ◌≢◌, ◌⊎◌, inl, inr, ℕ, ◌+◌, ◌<◌, ◌≤◌, List, [], ◌∷◌, ◌++◌, Option, Some, None, refl, sym, ◌∙◌, ap, subst, arith, ⊎_elim}
-use Rattle.std.proofs.lemmas.Bool.{cases_eq, cases_lt}
+use Rattle.std.proofs.Common.{◌≡◌, ◌⊎◌, inl, inr, ℕ, ◌<◌, ◌≤◌, List, [], ◌∷◌, Option, Some, None, refl, sym, ◌∙◌, ap, subst, arith, ⊎_elim}
+use Rattle.std.proofs.lemmas.Bool.{cases_lt}
 use Rattle.chip_verify.specs.Trust.{Trust}
 use Rattle.std.specs.Prelude.{option_map}
-use Rattle.chip_slots.specs.Image.{Reading, trust_read}
-use Rattle.chip_slots.specs.Ready.{Works, ReadsEither, IsStable}
+use Rattle.chip_slots.specs.Image.{Reading, reads, trust_read}
+use Rattle.chip_slots.specs.Ready.{EachImage, ReadsEither, IsStable}
 use Rattle.chip_slots.specs.Found.{IsLookedAt}
-use Rattle.chip_slots.specs.Chips.{IsFirstWritten}
 use Rattle.chip_slots.proofs.DeviceWork.{clean_image, own_image}
 use Rattle.chip_slots.specs.Crash.{Standing, Crash}
-use Rattle.chip_slots.specs.Acts.{Deed, Made, Opened, ChipAfter, Settling, Answered, Unsettled, Found, Lost, Act, does, after, trust_of, MayStand, MayMiss, IsTaken, IsSure, IsKnown, NoneSure, Fits}
+use Rattle.chip_slots.specs.Acts.{Deed, Opened, ChipAfter, Settling, Answered, Unsettled, Found, Lost, Act, does, after, trust_of, MayStand, MayMiss, IsTaken, IsSure, IsKnown, Fits}
 use Rattle.chip_slots.specs.Moments.{MayRead, act, Kept, Open}
 
 -- so it fits: it is read after some of the acts that were taken by then
@@ -66,52 +65,6 @@ read_taken (a ∷ acts) m taken (inr t) o e = inr (not_sure a m t.0, read_taken 
 -- an image of an earlier moment, as it was told then
 pub earlier : (told told' : ℕ → Standing) (n m : ℕ) (c : List ℕ) → ((k : ℕ) → k ≤ n → told' k ≡ told k) → m ≤ n → Crash (told' m) c → Crash (told m) c
 earlier told told' n m c keeps le crash = subst (λ (s : Standing). Crash s c) (keeps m le) crash
-
-module _ (told told' : ℕ → Standing) (first n0 n1 : ℕ) (acts taken : List Act) (deed : Deed) (k : Kept told first n0 acts taken) (later : n0 ≤ n1) (keeps : (m : ℕ) → m ≤ n0 → told' m ≡ told m) where
-  -- an act that is answered
-  pub next_act : ((m : ℕ) (c : List ℕ) → n0 < m → m < n1 → Crash (told' m) c → (trust_read c ≡ trust_of (after taken)) ⊎ (trust_read c ≡ trust_of (does deed (after taken)))) → ((c : List ℕ) → Crash (told' n1) c → trust_read c ≡ trust_of (does deed (after taken))) → Kept told' first n1 (act deed n0 n1 Answered ∷ acts) (act deed n0 n1 Answered ∷ taken)
-  next_act during done = record {
-    standing = λ m le. inl (taken, omega (arith, later, le), tt, refl, k.standing m (omega (arith, later, le)));
-    each = λ m c from to crash. ⊎_elim
-        (λ (last : m ≡ n1). inl (taken, omega (arith, later, last), tt, k.standing m (omega (arith, later, last)), done c (subst (λ (j : ℕ). Crash (told' j) c) last crash)))
-        (λ (inside : m ≢ n1). ⊎_elim
-        (λ (lt : m < n0). inr ((λ sure. omega (arith, sure.1, later, lt)), k.each m c from (omega (arith, lt)) (earlier told told' n0 m c keeps (omega (arith, lt)) crash)))
-        (λ (ge : n0 ≤ m). ⊎_elim
-        (λ (at : m ≡ n0). as_before m c to inside ge (k.now c (subst (λ (j : ℕ). Crash (told j) c) at (earlier told told' n0 m c keeps (omega (arith, at)) crash))))
-        (λ (more : m ≢ n0). ⊎_elim
-        (λ (old : trust_read c ≡ trust_of (after taken)). as_before m c to inside ge old)
-        (λ (new : trust_read c ≡ trust_of (does deed (after taken))). inl (taken, ge, tt, k.standing m ge, new))
-        (during m c (omega (arith, ge, more)) (omega (arith, to, inside)) crash))
-        (cases_eq m n0))
-        (cases_lt m n0))
-        (cases_eq m n1);
-    now = done;
-  }
-    where
-      as_before : (m : ℕ) (c : List ℕ) → m ≤ n1 → m ≢ n1 → n0 ≤ m → trust_read c ≡ trust_of (after taken) → MayRead (act deed n0 n1 Answered ∷ acts) m (trust_read c)
-      as_before m c to inside ge old = inr ((λ sure. omega (arith, sure.1, to, inside)), read_taken acts m taken (k.standing m ge) (trust_read c) old)
-
-  -- an act that a device failure leaves open
-  pub open_act : ((m : ℕ) (c : List ℕ) → n0 < m → m ≤ n1 → Crash (told' m) c → (trust_read c ≡ trust_of (after taken)) ⊎ (trust_read c ≡ trust_of (does deed (after taken)))) → Open told' first n1 acts taken deed n0 n1
-  open_act during = record {
-    standing = λ m le. k.standing m (omega (arith, later, le));
-    begun = later;
-    each = λ m c from to crash. ⊎_elim
-        (λ (lt : m < n0). inr ((λ sure. sure.1), k.each m c from (omega (arith, lt)) (earlier told told' n0 m c keeps (omega (arith, lt)) crash)))
-        (λ (ge : n0 ≤ m). either m c ge (now_or_later m c ge to crash))
-        (cases_lt m n0);
-    now = λ c crash. now_or_later n1 c later (omega arith) crash;
-  }
-    where
-      now_or_later : (m : ℕ) (c : List ℕ) → n0 ≤ m → m ≤ n1 → Crash (told' m) c → (trust_read c ≡ trust_of (after taken)) ⊎ (trust_read c ≡ trust_of (does deed (after taken)))
-      now_or_later m c ge to crash = ⊎_elim
-          (λ (at : m ≡ n0). inl (k.now c (subst (λ (j : ℕ). Crash (told j) c) at (earlier told told' n0 m c keeps (omega (arith, at)) crash))))
-          (λ (more : m ≢ n0). during m c (omega (arith, ge, more)) to crash)
-          (cases_eq m n0)
-
-      either : (m : ℕ) (c : List ℕ) → n0 ≤ m → ((trust_read c ≡ trust_of (after taken)) ⊎ (trust_read c ≡ trust_of (does deed (after taken)))) → MayRead (act deed n0 n1 Unsettled ∷ acts) m (trust_read c)
-      either m c ge (inl old) = inr ((λ sure. sure.1), read_taken acts m taken (k.standing m ge) (trust_read c) old)
-      either m c ge (inr new) = inl (taken, ge, tt, k.standing m ge, new)
 
 -- A reading of all slots settles the act that was left open. Until then each image is read as before, from then on as
 -- the reading found.
@@ -197,19 +150,43 @@ module _ (told told' : ℕ → Standing) (first n1 n2 : ℕ) (acts taken : List 
 abbrev pub trust_in_reading : Reading → Option Trust
 trust_in_reading r = option_map (λ x. x.0) r
 
-module _ (told told' : ℕ → Standing) (first n0 n1 : ℕ) (acts taken : List Act) (deed : Deed) (old new : Reading) (k : Kept told first n0 acts taken) (was : trust_in_reading old ≡ trust_of (after taken)) (is : trust_in_reading new ≡ trust_of (does deed (after taken))) (works : Works (ReadsEither old new) told told' n0 n1) where
-  either_of : (c : List ℕ) → ReadsEither old new c → (trust_read c ≡ trust_of (after taken)) ⊎ (trust_read c ≡ trust_of (does deed (after taken)))
-  either_of c (inl h) = inl (ap trust_in_reading h ∙ was)
-  either_of c (inr h) = inr (ap trust_in_reading h ∙ is)
+-- an act that began at this number of calls, or earlier
+module _ (told told' : ℕ → Standing) (first begun n n1 : ℕ) (acts taken : List Act) (deed : Deed) (old new : Reading) (k : Kept told first n acts taken) (le : begun ≤ n) (was : trust_in_reading old ≡ trust_of (after taken)) (is : trust_in_reading new ≡ trust_of (does deed (after taken))) (works : EachImage (ReadsEither old new) told told' n n1) where
+  -- it is answered
+  pub earlier_kept : IsStable new (told' n1) → Kept told' first n1 (act deed begun n1 Answered ∷ acts) (act deed begun n1 Answered ∷ taken)
+  earlier_kept stable = record {
+    standing = λ m ge. inl (taken, omega (arith, le, works.later, ge), tt, refl, k.standing m (omega (arith, works.later, ge)));
+    each = λ m c from to crash. ⊎_elim
+        (λ (lt : m < n1). ⊎_elim
+        (λ (before : m < n). inr ((λ sure. omega (arith, sure.1, lt)), k.each m c from (omega (arith, before)) (earlier told told' n m c works.keeps (omega (arith, before)) crash)))
+        (λ (ge : n ≤ m). ⊎_elim
+        (λ (h : reads c ≡ old). inr ((λ sure. omega (arith, sure.1, lt)), read_taken acts m taken (k.standing m ge) (trust_read c) (ap trust_in_reading h ∙ was)))
+        (λ (h : reads c ≡ new). inl (taken, omega (arith, le, ge), tt, k.standing m ge, ap trust_in_reading h ∙ is))
+        (works.images m c ge to crash))
+        (cases_lt m n))
+        (λ (ge : n1 ≤ m). let last : m ≡ n1 = omega (arith, to, ge) in
+        inl (taken, omega (arith, le, works.later, ge), tt, k.standing m (omega (arith, works.later, ge)), done c (subst (λ (j : ℕ). Crash (told' j) c) last crash)))
+        (cases_lt m n1);
+    now = done;
+  }
+    where
+      done : (c : List ℕ) → Crash (told' n1) c → trust_read c ≡ trust_of (does deed (after taken))
+      done c crash = ap trust_read (clean_image (told' n1) c stable.clean crash) ∙ ap trust_in_reading stable.read ∙ is
 
-  pub kept_by : IsStable new (told' n1) → Kept told' first n1 (act deed n0 n1 Answered ∷ acts) (act deed n0 n1 Answered ∷ taken)
-  kept_by stable = next_act told told' first n0 n1 acts taken deed k works.later works.keeps
-      (λ m c more less crash. either_of c (works.images m c (omega (arith, more)) (omega (arith, less)) crash))
-      (λ c crash. ap trust_read (clean_image (told' n1) c stable.clean crash) ∙ ap trust_in_reading stable.read ∙ is)
-
-  pub left_open : Open told' first n1 acts taken deed n0 n1
-  left_open = open_act told told' first n0 n1 acts taken deed k works.later works.keeps
-      (λ m c more less crash. either_of c (works.images m c (omega (arith, more)) less crash))
+  -- a device failure leaves it open
+  pub earlier_open : Open told' first n1 acts taken deed begun n1
+  earlier_open = record {
+    standing = λ m ge. k.standing m (omega (arith, works.later, ge));
+    begun = omega (arith, le, works.later);
+    each = λ m c from to crash. ⊎_elim
+        (λ (before : m < n). inr ((λ sure. sure.1), k.each m c from (omega (arith, before)) (earlier told told' n m c works.keeps (omega (arith, before)) crash)))
+        (λ (ge : n ≤ m). ⊎_elim
+        (λ (h : reads c ≡ old). inr ((λ sure. sure.1), read_taken acts m taken (k.standing m ge) (trust_read c) (ap trust_in_reading h ∙ was)))
+        (λ (h : reads c ≡ new). inl (taken, omega (arith, le, ge), tt, k.standing m ge, ap trust_in_reading h ∙ is))
+        (works.images m c ge to crash))
+        (cases_lt m n);
+    now = λ c crash. ⊎_elim (λ (h : reads c ≡ old). inl (ap trust_in_reading h ∙ was)) (λ (h : reads c ≡ new). inr (ap trust_in_reading h ∙ is)) (works.images n1 c works.later (omega arith) crash);
+  }
 
 -- a memory that is only read
 module _ (told told' : ℕ → Standing) (first n1 n2 : ℕ) (acts taken : List Act) (looked : IsLookedAt told told' n1 n2) where
@@ -254,38 +231,8 @@ module _ (told told' : ℕ → Standing) (first n1 n2 : ℕ) (acts taken : List 
           go (inl old) = inr (lost told told' first n1 n2 acts taken deed n0 to k looked.works.later more looked.works.keeps during (λ c crash. now_read c crash ∙ old))
           go (inr new) = inl (found told told' first n1 n2 acts taken deed n0 to k looked.works.later more looked.works.keeps during (λ c crash. now_read c crash ∙ new))
 
--- ---- openings and makings as acts
+-- ---- openings as acts
 
-opened_same : (o : ChipAfter) → trust_of o ≡ trust_of (does Opened o)
+pub opened_same : (o : ChipAfter) → trust_of o ≡ trust_of (does Opened o)
 opened_same None = refl
 opened_same (Some ts) = refl
-
-pub opened_act : (told told' : ℕ → Standing) (first n0 n1 : ℕ) (acts taken : List Act) → Kept told first n0 acts taken → IsLookedAt told told' n0 n1 → Kept told' first n1 (act Opened n0 n1 Answered ∷ acts) (act Opened n0 n1 Answered ∷ taken)
-opened_act told told' first n0 n1 acts taken k looked = next_act told told' first n0 n1 acts taken Opened k looked.works.later looked.works.keeps
-    (λ m c more less crash. inl (k.now c (looked.works.images m c (omega (arith, more)) (omega (arith, less)) crash)))
-    (λ c crash. k.now c (looked.works.images n1 c looked.works.later (omega arith) crash) ∙ opened_same (after taken))
-
-module _ (told told' : ℕ → Standing) (first n0 n1 : ℕ) (acts taken : List Act) (t : Trust) (k : Kept told first n0 acts taken) (none : trust_of (after taken) ≡ None) (f : IsFirstWritten t told told' n0 n1) where
-  first_later : n0 ≤ n1
-  first_later = omega (arith, f.looked.works.later, f.writes.later)
-
-  first_keeps : (m : ℕ) → m ≤ n0 → told' m ≡ told m
-  first_keeps m le = f.writes.keeps m (omega (arith, le, f.looked.works.later)) ∙ f.looked.works.keeps m le
-
-  first_images : (m : ℕ) (c : List ℕ) → n0 < m → m ≤ n1 → Crash (told' m) c → (trust_read c ≡ trust_of (after taken)) ⊎ (trust_read c ≡ trust_of (does (Made t) (after taken)))
-  first_images m c more less crash = ⊎_elim
-      (λ (late : f.found < m). either (f.writes.images m c (omega (arith, late)) less crash))
-      (λ (le : m ≤ f.found). inl (k.now c (f.looked.works.images m c (omega (arith, more)) le (subst (λ (s : Standing). Crash s c) (f.writes.keeps m le) crash))))
-      (cases_lt f.found m)
-    where
-      either : ReadsEither None (Some (t, 0)) c → (trust_read c ≡ trust_of (after taken)) ⊎ (trust_read c ≡ trust_of (does (Made t) (after taken)))
-      either (inl old) = inl (ap trust_in_reading old ∙ sym none)
-      either (inr new) = inr (ap trust_in_reading new)
-
-  pub made_act : IsStable (Some (t, 0)) (told' n1) → Kept told' first n1 (act (Made t) n0 n1 Answered ∷ acts) (act (Made t) n0 n1 Answered ∷ taken)
-  made_act stable = next_act told told' first n0 n1 acts taken (Made t) k first_later first_keeps
-      (λ m c more less crash. first_images m c more (omega (arith, less)) crash)
-      (λ c crash. ap trust_read (clean_image (told' n1) c stable.clean crash) ∙ ap trust_in_reading stable.read)
-
-  pub made_open : Open told' first n1 acts taken (Made t) n0 n1
-  made_open = open_act told told' first n0 n1 acts taken (Made t) k first_later first_keeps first_images

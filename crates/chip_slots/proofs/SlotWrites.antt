@@ -1,15 +1,14 @@
 -- What the images read as while one slot is written that isn't the newest one's.
-use Rattle.std.proofs.Common.{◌≡◌, ◌≢◌, ◌⊎◌, inl, inr, ℕ, zero, suc, ◌+◌, ◌*◌, ◌/◌, ◌%◌, ◌<◌, ◌≤◌, List, [], ◌∷◌, ◌++◌, length, take, drop, get_or, Option, Some, None, Bool, true, false, cond, refl, sym, ◌∙◌, ap, subst, arith, ⊎_elim, length-take, length-drop, get_or-take, get_or-drop, take-append-drop}
-use Rattle.std.proofs.lemmas.Bool.{cases_eq, cases_lt}
+use Rattle.std.proofs.Common.{◌≡◌, ◌≢◌, ◌⊎◌, inl, inr, ℕ, ◌+◌, ◌*◌, ◌/◌, ◌%◌, ◌<◌, ◌≤◌, List, [], ◌∷◌, length, take, drop, get_or, Some, None, Bool, true, false, cond, refl, sym, ◌∙◌, ap, subst, arith, ⊎_elim, length-take, length-drop, get_or-take, get_or-drop}
+use Rattle.std.proofs.lemmas.Bool.{cases_lt}
 use Rattle.std.proofs.lemmas.Bool.Decides.{nat_tests}
 use Rattle.std.proofs.lemmas.List.{ext_get_or}
-use Rattle.std.specs.Prelude.{nat_lt, nat_le, slice_index, ◌==◌, ◌&&◌, ◌||◌}
-use Rattle.eac_base.specs.Bytes.{is_within}
+use Rattle.std.specs.Prelude.{slice_index}
 use Rattle.chip_verify.specs.Trust.{Trust}
 use Rattle.chip_slots.specs.Slot.{record_of}
 use Rattle.chip_slots.proofs.Records.{record_place}
 use Rattle.chip_slots.specs.Image.{Reading, gate, behind_gate, is_open, slot_says, greatest, slots_in, is_memory, reads}
-use Rattle.chip_slots.specs.Ready.{IsApart, IsMore, IsSpare, IsFree, IsReady, AreRecord}
+use Rattle.chip_slots.specs.Ready.{IsApart, IsMore, IsSpare}
 use Rattle.chip_slots.specs.Crash.{Standing, Crash, is_among, Writes}
 use Rattle.chip_slots.proofs.Greatest.{Placed, shut, stays, opened}
 

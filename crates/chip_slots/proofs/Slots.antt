@@ -1,5 +1,5 @@
 -- What the bytes of one slot say of the memory.
-use Rattle.std.proofs.Common.{◌≡◌, ℕ, zero, suc, ◌+◌, ◌-◌, ◌*◌, ◌<◌, ◌≤◌, List, [], ◌∷◌, length, take, drop, get_or, Option, Some, None, Bool, true, false, cond, refl, sym, ◌∙◌, ap, subst, arith, get_or-take, get_or-drop, drop-drop}
+use Rattle.std.proofs.Common.{◌≡◌, ℕ, zero, suc, ◌+◌, ◌-◌, ◌*◌, List, [], ◌∷◌, take, drop, None, cond, refl, sym, ◌∙◌, ap, arith, get_or-take, get_or-drop, drop-drop}
 use Rattle.std.specs.Prelude.{slice_index, slice_range}
 use Rattle.chip_slots.specs.Slot.{record_of}
 use Rattle.chip_slots.specs.Image.{Reading, is_open, gate, behind_gate, slot_says}

@@ -1,5 +1,5 @@
 -- Which act an import is (this project's own).
-use Rattle.std.specs.Prelude.{◌≡◌, ◌+◌, ℕ, List, Option, Some, None, Result, Ok, Err, Bool, false}
+use Rattle.std.specs.Prelude.{◌≡◌, ◌+◌, ℕ, List, Some, Result, Ok, Err, Bool, false}
 use Rattle.cvc_grammar.specs.declared.certificate.Cert.{Cert}
 use Rattle.cvc_grammar.specs.declared.refusal.CvcRefusal.{CvcRefusal}
 use Rattle.cvc_grammar.specs.ReadingOrder.{read_cert}
@@ -12,7 +12,7 @@ use Rattle.chip_slots.specs.declared.answers.ChipRefusal.{ChipRefusal}
 use Rattle.chip_slots.specs.declared.answers.ChipRefusal.TheVariants as refusal
 use Rattle.chip_slots.specs.Crash.{Standing}
 use Rattle.chip_slots.specs.Acts.{ChipAfter}
-use Rattle.chip_slots.specs.Chips.{ChipValue, read_as, Leaves}
+use Rattle.chip_slots.specs.Chips.{ChipValue, read_as, LeavesEither}
 
 -- The provider's verdict on the signature of these bytes. What can't be read has none, which changes nothing.
 abbrev pub verdict_read : Says → ChipValue → Result Cert CvcRefusal → Bool
@@ -28,7 +28,7 @@ module _ (tells : Type 0) (past told : ℕ → Standing) (from to : ℕ) where
     pub trust : Trust
     pub session : SessionValue
     pub does_so : done ≡ Some (trust, session)
-    pub leaves : Leaves tells past told from to (read_as c) (Some (trust, c.generation + 1))
+    pub leaves : LeavesEither tells past told from to (read_as c) (Some (trust, c.generation + 1))
 
   -- What the act does stands in the chip where the import was answered by Ok or by a refusal of the certificate. What was
   -- answered by a failing provider, by a chip that needs opening or is worn is no act.

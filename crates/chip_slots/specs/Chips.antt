@@ -1,5 +1,5 @@
 -- A chip as its calls see it, what they answer and what they do to its memory (this project's own).
-use Rattle.std.specs.Prelude.{◌≡◌, ◌≢◌, ◌⊎◌, ◌+◌, ◌-◌, ◌<◌, ◌≤◌, ◌^◌, ℕ, List, Option, Some, None, Result, Ok, Err, Bool, true, false}
+use Rattle.std.specs.Prelude.{◌≡◌, ◌≢◌, ◌⊎◌, ◌+◌, ◌-◌, ◌<◌, ◌^◌, ℕ, List, Some, None, Result, Ok, Err, Bool, true, false}
 use Rattle.cvc_grammar.specs.declared.certificate.Cert.{Cert}
 use Rattle.cvc_grammar.specs.declared.refusal.CvcRefusal.{CvcRefusal}
 use Rattle.cvc_grammar.specs.ReadingOrder.{read_cert}
@@ -17,9 +17,9 @@ use Rattle.chip_slots.specs.declared.answers.ChipRefusal.{ChipRefusal}
 use Rattle.chip_slots.specs.declared.answers.ChipRefusal.TheVariants as refusal
 use Rattle.chip_slots.specs.declared.answers.MakeRefusal.{MakeRefusal}
 use Rattle.chip_slots.specs.declared.answers.MakeRefusal.TheVariants as refuses
-use Rattle.chip_slots.specs.Crash.{Standing, IsClean}
-use Rattle.chip_slots.specs.Image.{Reading, reads}
-use Rattle.chip_slots.specs.Ready.{IsStable, Works, ReadsEither}
+use Rattle.chip_slots.specs.Crash.{Standing}
+use Rattle.chip_slots.specs.Image.{Reading}
+use Rattle.chip_slots.specs.Ready.{IsStable, EachImage, ReadsEither}
 use Rattle.chip_slots.specs.Found.{IsLookedAt, IsFoundIn}
 
 -- What a chip holds between its calls. It needs opening where a device failure has left open which state its memory has.
@@ -52,6 +52,18 @@ Opens (Err refusal.Worn) found now = ⊥
 
 -- ---- importing
 
+-- No row of the table comes before the signature of a certificate.
+abbrev pub IsAsked : ChipValue → Cert → Type 0
+IsAsked c cert = checked c.state c.session cert.body ≡ checks.Ask
+
+abbrev pub IsReadAsked : ChipValue → Result Cert CvcRefusal → Type 0
+IsReadAsked c (Ok cert) = IsAsked c cert
+IsReadAsked c (Err e) = ⊥
+
+-- The provider is asked: the chip is ready, the bytes are a certificate, and the rules ask for its signature.
+abbrev pub Asks : ChipValue → List ℕ → Type 0
+Asks c bytes = (c.needs_opening ≡ false) × IsReadAsked c (read_cert bytes)
+
 -- The state is no other one: only the session moves.
 abbrev pub in_session : ChipValue → SessionValue → ChipValue
 in_session c s = record { state = c.state; session = s; generation = c.generation; needs_opening = false }
@@ -67,27 +79,27 @@ broken c = record { state = c.state; session = no_session; generation = c.genera
 -- The disk tells so; what stood at each moment before and after, from the call's start to its return.
 module _ (tells : Type 0) (past told : ℕ → Standing) (from to : ℕ) where
   -- Each image reads as one of the two.
-  abbrev pub Leaves : Reading → Reading → Type 0
-  Leaves old new = tells → IsStable old (past from) → Works (ReadsEither old new) past told from to
+  abbrev pub LeavesEither : Reading → Reading → Type 0
+  LeavesEither old new = tells → IsStable old (past from) → EachImage (ReadsEither old new) past told from to
 
   -- Each image now reads as this one alone.
-  abbrev pub Keeps : Reading → Reading → Type 0
-  Keeps old new = tells → IsStable old (past from) → IsStable new (told to)
+  abbrev pub EndsAs : Reading → Reading → Type 0
+  EndsAs old new = tells → IsStable old (past from) → IsStable new (told to)
 
   -- The chip moved to this session, with its state as it was.
   pub record MovesSession (c : ChipValue) (t : Trust) (s : SessionValue) (c' : ChipValue) : Type 0 where
     pub same : t ≡ c.state
     pub chip : c' ≡ in_session c s
-    pub leaves : Leaves (read_as c) (read_as c)
-    pub keeps : Keeps (read_as c) (read_as c)
+    pub leaves : LeavesEither (read_as c) (read_as c)
+    pub keeps : EndsAs (read_as c) (read_as c)
 
   -- The chip moved to another state.
   pub record MovesState (c : ChipValue) (t : Trust) (s : SessionValue) (c' : ChipValue) : Type 0 where
     pub other : t ≢ c.state
     pub room : c.generation < 2 ^ 64 - 1
     pub chip : c' ≡ in_state c t s
-    pub leaves : Leaves (read_as c) (Some (t, c.generation + 1))
-    pub keeps : Keeps (read_as c) (Some (t, c.generation + 1))
+    pub leaves : LeavesEither (read_as c) (Some (t, c.generation + 1))
+    pub keeps : EndsAs (read_as c) (Some (t, c.generation + 1))
 
   pub record IsWorn (c : ChipValue) (t : Trust) (c' : ChipValue) : Type 0 where
     pub other : t ≢ c.state
@@ -99,7 +111,7 @@ module _ (tells : Type 0) (past told : ℕ → Standing) (from to : ℕ) where
     pub other : t ≢ c.state
     pub room : c.generation < 2 ^ 64 - 1
     pub chip : c' ≡ broken c
-    pub leaves : Leaves (read_as c) (Some (t, c.generation + 1))
+    pub leaves : LeavesEither (read_as c) (Some (t, c.generation + 1))
 
   -- This state and session follow, of a certificate of this sort.
   abbrev pub Moves : ChipValue → Trust → SessionValue → Imported → Result Imported ChipRefusal → ChipValue → Type 0
@@ -113,32 +125,32 @@ module _ (tells : Type 0) (past told : ℕ → Standing) (from to : ℕ) where
   Moves c t s what (Err (refusal.Refused k)) c' = ⊥
 
   -- What comes of a certificate that is judged so.
-  abbrev pub Settles : ChipValue → Judged → Result Imported ChipRefusal → ChipValue → Type 0
-  Settles c judges.Held result c' = (result ≡ Ok imports.Held) × (c' ≡ c)
-  Settles c (judges.Refused k) result c' = (result ≡ Err (refusal.Refused k)) × (c' ≡ c)
-  Settles c (judges.Next t s what) result c' = Moves c t s what result c'
+  abbrev pub Follows : ChipValue → Judged → Result Imported ChipRefusal → ChipValue → Type 0
+  Follows c judges.Held result c' = (result ≡ Ok imports.Held) × (c' ≡ c)
+  Follows c (judges.Refused k) result c' = (result ≡ Err (refusal.Refused k)) × (c' ≡ c)
+  Follows c (judges.Next t s what) result c' = Moves c t s what result c'
 
   -- The provider's answer is a judgement, or it failed.
   pub record IsJudged (says : Says) (c : ChipValue) (cert : Cert) (result : Result Imported ChipRefusal) (c' : ChipValue) : Type 0 where
     pub judged : Judged
     pub judges : Judges says c.state c.session cert judged
-    pub settles : Settles c judged result c'
+    pub follows : Follows c judged result c'
 
   pub record IsUnheard (c : ChipValue) (cert : Cert) (result : Result Imported ChipRefusal) (c' : ChipValue) : Type 0 where
-    pub asked : checked c.state c.session cert.body ≡ checks.Ask
+    pub asked : IsAsked c cert
     pub answer : result ≡ Err refusal.ProviderFault
     pub chip : c' ≡ c
 
-  abbrev pub Takes : Says → ChipValue → Cert → Result Imported ChipRefusal → ChipValue → Type 0
-  Takes says c cert result c' = IsJudged says c cert result c' ⊎ IsUnheard c cert result c'
+  abbrev pub ImportsCert : Says → ChipValue → Cert → Result Imported ChipRefusal → ChipValue → Type 0
+  ImportsCert says c cert result c' = IsJudged says c cert result c' ⊎ IsUnheard c cert result c'
 
-  abbrev pub TakesRead : Says → ChipValue → Result Cert CvcRefusal → Result Imported ChipRefusal → ChipValue → Type 0
-  TakesRead says c (Ok cert) result c' = Takes says c cert result c'
-  TakesRead says c (Err e) result c' = (result ≡ Err (refusal.Syntax e)) × (c' ≡ c)
+  abbrev pub ImportsRead : Says → ChipValue → Result Cert CvcRefusal → Result Imported ChipRefusal → ChipValue → Type 0
+  ImportsRead says c (Ok cert) result c' = ImportsCert says c cert result c'
+  ImportsRead says c (Err e) result c' = (result ≡ Err (refusal.Syntax e)) × (c' ≡ c)
 
   abbrev pub ImportsWhere : Bool → Says → ChipValue → List ℕ → Result Imported ChipRefusal → ChipValue → Type 0
   ImportsWhere true says c bytes result c' = (result ≡ Err refusal.NeedsOpen) × (c' ≡ c)
-  ImportsWhere false says c bytes result c' = TakesRead says c (read_cert bytes) result c'
+  ImportsWhere false says c bytes result c' = ImportsRead says c (read_cert bytes) result c'
 
   -- What an import of these bytes answers, and what it does.
   abbrev pub Imports : Says → ChipValue → List ℕ → Result Imported ChipRefusal → ChipValue → Type 0
@@ -152,7 +164,7 @@ pub record IsFirstWritten (t : Trust) (past told : ℕ → Standing) (from to : 
   pub found : ℕ
   pub looked : IsLookedAt past mid from found
   pub stable : IsFoundIn past mid from found
-  pub writes : Works (ReadsEither None (Some (t, 0))) mid told found to
+  pub writes : EachImage (ReadsEither None (Some (t, 0))) mid told found to
 
 -- What a making with this first state answers on a disk of the right length, whose memory reads so, and what it does.
 abbrev pub Makes : Trust → Reading → Result (Unit {0}) MakeRefusal → (ℕ → Standing) → (ℕ → Standing) → ℕ → ℕ → Type 0

@@ -38,6 +38,10 @@ abbrev pub Syncs : Bool → Standing → Standing → Type 0
 Syncs true old new = new ≡ record { bytes = old.bytes; pending = [] }
 Syncs false old new = new ≡ old
 
+-- A device call is counted, or the count stands at its last value and the call failed.
+abbrev pub CountsCall : Bool → ℕ → ℕ → Type 0
+CountsCall ok before now = (now ≡ before + 1) ⊎ ((now ≡ before) × (before ≡ 2 ^ 64 - 1) × (ok ≡ false))
+
 -- A device call: what stood at earlier moments stays told, and there is one more moment, after this step; or the number
 -- of calls stands at its last value, and the call failed.
 pub record DeviceCall (ok : Bool) (step : Standing → Standing → Type 0) (before now : ℕ) (past told : ℕ → Standing) : Type 0 where

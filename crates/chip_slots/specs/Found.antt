@@ -1,9 +1,9 @@
 -- What was found in a memory, and what stands while it is looked for.
-use Rattle.std.specs.Prelude.{◌≡◌, ◌≤◌, ◌<◌, ℕ, List, [], Option, Some, None}
-use Rattle.chip_slots.specs.declared.memory_reading.Stored.{Stored}
+use Rattle.std.specs.Prelude.{◌≡◌, ◌≤◌, ◌<◌, ℕ, [], Option, Some, None}
+use Rattle.chip_slots.specs.declared.chip.reading.Stored.{Stored}
 use Rattle.chip_slots.specs.Crash.{Standing, Crash}
 use Rattle.chip_slots.specs.Image.{Reading}
-use Rattle.chip_slots.specs.Ready.{Works}
+use Rattle.chip_slots.specs.Ready.{EachImage}
 
 abbrev pub seen : Option Stored → Reading
 seen None = None
@@ -17,7 +17,7 @@ pub record Stays (past told : ℕ → Standing) (from to : ℕ) : Type 0 where
 
 -- No image is another one than a crash could leave at the start, and a read still gives what it gave then.
 pub record IsLookedAt (past told : ℕ → Standing) (from to : ℕ) : Type 0 where
-  pub works : Works (Crash (past from)) past told from to
+  pub works : EachImage (Crash (past from)) past told from to
   pub same : (told to).bytes ≡ (past from).bytes
 
 -- It was made stable first: at each moment after the first one nothing is pending, and the bytes are those of the start.

@@ -1,5 +1,5 @@
 -- What a chip's memory reads as: slots of 8,192 bytes, each behind a gate of one byte (this project's own).
-use Rattle.std.specs.Prelude.{◌≡◌, ◌+◌, ◌*◌, ◌/◌, ◌%◌, ℕ, zero, suc, List, Option, Some, None, Bool, ◌&&◌, take, drop, length, slice_index, if◌then◌else◌, ◌==◌, nat_lt, option_map}
+use Rattle.std.specs.Prelude.{◌+◌, ◌*◌, ◌/◌, ◌%◌, ℕ, zero, suc, List, Option, Some, None, Bool, ◌&&◌, take, drop, length, slice_index, if◌then◌else◌, ◌==◌, nat_lt, option_map}
 use Rattle.eac_base.specs.Bytes.{is_within}
 use Rattle.chip_verify.specs.Trust.{Trust}
 use Rattle.chip_slots.specs.Slot.{record_of}

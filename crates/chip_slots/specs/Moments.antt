@@ -1,5 +1,5 @@
 -- What holds of a chip between two calls, for every image at every moment so far (this project's own).
-use Rattle.std.specs.Prelude.{◌≡◌, ◌≤◌, ◌⊎◌, ℕ, List, [], ◌∷◌, Option, Some, None}
+use Rattle.std.specs.Prelude.{◌≡◌, ◌≤◌, ◌⊎◌, ℕ, List, [], ◌∷◌, Option, None}
 use Rattle.chip_verify.specs.Trust.{Trust}
 use Rattle.chip_slots.specs.Image.{trust_read}
 use Rattle.chip_slots.specs.Crash.{Standing, Crash}
@@ -31,10 +31,3 @@ pub record Open (told : ℕ → Standing) (first calls : ℕ) (acts taken : List
   pub begun : from ≤ calls
   pub each : EachFrom told first calls (λ m c. MayRead (act deed from to Unsettled ∷ acts) m (trust_read c))
   pub now : (c : List ℕ) → Crash (told calls) c → (trust_read c ≡ trust_of (after taken)) ⊎ (trust_read c ≡ trust_of (does deed (after taken)))
-
--- a chip between two calls: settled, or left open by the last act
-abbrev pub Holds : (told : ℕ → Standing) → (first calls : ℕ) → List Act → Type 0
-Holds told first calls acts =
-    ((taken : List Act) × Kept told first calls acts taken)
-    ⊎ ((before : List Act) × (taken : List Act) × (deed : Deed) × (from : ℕ) × (to : ℕ)
-    × (acts ≡ act deed from to Unsettled ∷ before) × Open told first calls before taken deed from to)

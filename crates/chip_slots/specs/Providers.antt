@@ -1,10 +1,10 @@
 -- A provider that was only asked for verdicts.
-use Rattle.std.specs.Prelude.{◌≡◌, ◌≤◌, ℕ}
-use Rattle.signature_provider.specs.Provider.{Says, Holds, Signed}
+use Rattle.std.specs.Prelude.{◌≡◌, ◌≤◌}
+use Rattle.signature_provider.specs.declared.provider.SignatureProvider.{Ghosts as ProviderOf}
 
 -- It says, holds and has signed what it did, and its count of faults has not fallen.
-pub record KeepsProvider (said says : Says) (held holds : Holds) (before signed : Signed) (first last : ℕ) : Type 0 where
-  pub verdicts : says ≡ said
-  pub keys : holds ≡ held
-  pub pairs : signed ≡ before
-  pub faults : first ≤ last
+pub record IsOnlyAsked {P : Type 0} (G : ProviderOf P) (old new : P) : Type 0 where
+  pub verdicts : G.says new ≡ G.says old
+  pub keys : G.holds new ≡ G.holds old
+  pub pairs : G.signed new ≡ G.signed old
+  pub faults : G.faults old ≤ G.faults new

@@ -1,5 +1,5 @@
 -- What stands on a disk between the device calls that write a new state (this project's own).
-use Rattle.std.specs.Prelude.{◌≡◌, ◌≢◌, ◌⊎◌, ◌<◌, ◌≤◌, ◌+◌, ◌%◌, ◌++◌, ℕ, List, [], Some, true, false, length, IfSome}
+use Rattle.std.specs.Prelude.{◌≡◌, ◌≢◌, ◌⊎◌, ◌<◌, ◌≤◌, ◌+◌, ◌%◌, ◌++◌, ℕ, List, Some, true, false, length, IfSome}
 use Rattle.chip_verify.specs.Trust.{Trust}
 use Rattle.chip_slots.specs.Slot.{record_of}
 use Rattle.chip_slots.specs.Image.{Reading, is_memory, slots_in, gate, behind_gate, is_open, reads}
@@ -8,7 +8,7 @@ use Rattle.chip_slots.specs.Crash.{Standing, IsClean, AlwaysFrom}
 -- ---- images while something is done
 
 -- What stood at earlier moments stays told, and each image from the first moment to the last is so.
-pub record Works (P : List ℕ → Type 0) (past told : ℕ → Standing) (from to : ℕ) : Type 0 where
+pub record EachImage (P : List ℕ → Type 0) (past told : ℕ → Standing) (from to : ℕ) : Type 0 where
   pub later : from ≤ to
   pub keeps : (moment : ℕ) → moment ≤ from → told moment ≡ past moment
   pub images : AlwaysFrom told from to P

@@ -1,7 +1,7 @@
 -- A disk in memory, which keeps all its device calls (this project's own).
-use Rattle.std.specs.Prelude.{◌≡◌, ◌⊎◌, ◌≤◌, ◌+◌, ◌-◌, ◌^◌, ℕ, zero, suc, List, [], ◌∷◌, min, length, take, Bool, true, false, Some, None, replicate}
+use Rattle.std.specs.Prelude.{◌≡◌, ◌⊎◌, ◌≤◌, ℕ, zero, suc, List, [], ◌∷◌, length, take, Bool, true, false, Some, None, Result, Ok, Err, replicate}
 use Rattle.std.specs.declared.option.Option.{Option}
-use Rattle.eac_base.specs.Planned.{IsPlanned}
+use Rattle.eac_base.specs.Planned.{IsPlanned, next_count}
 use Rattle.chip_slots.specs.Crash.{Standing}
 
 -- ---- what a call did
@@ -76,6 +76,11 @@ IsStopped (Some stop) calls = stop ≤ calls
 -- The next call fails: its number stands in the plan, or as many calls were made as are to succeed.
 abbrev pub FailsNext : DiskValue → Type 0
 FailsNext d = IsPlanned d.plan (length d.done) ⊎ IsStopped d.stop_after (length d.done)
+
+-- The count of faults after a call: one more where it failed, up to its last value.
+abbrev pub faults_after : {T E : Type 0} → Result T E → ℕ → ℕ
+faults_after (Ok v) faults = faults
+faults_after (Err e) faults = next_count faults
 
 -- What a call leaves alone.
 pub record IsSame (old new : DiskValue) : Type 0 where

@@ -1,7 +1,7 @@
 -- Calls that are played again.
 use Rattle.std.specs.Prelude.{◌≡◌, ◌+◌, ℕ, List, drop, reverse, length}
-use Rattle.chip_slots.specs.declared.memory_disk.Step.{Step}
-use Rattle.chip_slots.specs.declared.replay.Replayed.{Replayed}
+use Rattle.chip_slots.specs.declared.disk.memory.Step.{Step}
+use Rattle.chip_slots.specs.declared.disk.replay.Replayed.{Replayed}
 use Rattle.chip_slots.specs.Crash.{Standing}
 use Rattle.chip_slots.specs.Recorded.{after_call, played, fresh}
 use Rattle.chip_slots.specs.Steps.{did_of, seen, written, all_written, AreRanges}

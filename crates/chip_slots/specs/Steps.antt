@@ -1,8 +1,8 @@
 -- How a disk in memory writes its calls down: the bytes of all its writes lie one behind another.
-use Rattle.std.specs.Prelude.{◌≡◌, ◌≤◌, ◌+◌, ◌/◌, ℕ, List, [], ◌∷◌, min, length, take, drop, Some, None}
+use Rattle.std.specs.Prelude.{◌≡◌, ◌≤◌, ◌+◌, ◌/◌, ℕ, List, [], ◌∷◌, min, take, drop, Some, None}
 use Rattle.std.specs.declared.option.Option.{Option}
-use Rattle.chip_slots.specs.declared.memory_disk.Step.{Step}
-use Rattle.chip_slots.specs.declared.memory_disk.Step.TheVariants as step
+use Rattle.chip_slots.specs.declared.disk.memory.Step.{Step}
+use Rattle.chip_slots.specs.declared.disk.memory.Step.TheVariants as step
 use Rattle.chip_slots.specs.Recorded.{Did, Idle, Wrote, Torn, Synced, played, fresh}
 
 -- How many bytes a call wrote.

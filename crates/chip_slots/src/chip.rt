@@ -1,12 +1,19 @@
 // A chip between its calls.
-ghost use Rattle.std.specs.Prelude.{◌≡◌, ◌≢◌, ◌≤◌, ◌<◌, ◌+◌, ◌-◌, ◌*◌, ◌⊎◌, Err, IfOk, IfErr, true};
+ghost use Rattle.std.specs.Prelude.{◌≡◌, ◌≢◌, ◌≤◌, ◌<◌, ◌⊎◌, Err, IfOk, IfErr, true};
 ghost use Rattle.eac_base.specs.Causes.{Rose};
+ghost use Rattle.chip_slots.specs.Calls.{DeviceCalls};
 ghost use Rattle.chip_slots.specs.Image.{is_memory, reads};
-ghost use Rattle.chip_slots.specs.Found.{IsLookedAt};
+ghost use Rattle.chip_slots.specs.Found.{IsLookedAt, IsFoundIn};
 ghost use Rattle.chip_slots.specs.Chips.{Opens, IsOpened};
 ghost use Rattle.chip_slots.specs.declared.answers.ChipRefusal.TheVariants as refusal;
 
-use crate::memory_reading::{Stored, read_memory};
+mod gates;
+mod importing;
+pub mod making;
+mod reading;
+mod storing;
+
+use self::reading::{Stored, read_memory};
 use crate::{ChipDisk, ChipRefusal};
 use chip_verify::{ChipState, Session};
 use std::marker::Model;
@@ -27,7 +34,12 @@ impl Model for Chip {
 
     ghost Value = { ChipValue };
 
-    ghost view = { λ c. record { state = c.state; session = c.session; generation = c.generation; needs_opening = c.needs_opening } };
+    ghost view = { λ c. record {
+      state = c.state;
+      session = c.session;
+      generation = c.generation;
+      needs_opening = c.needs_opening;
+    } };
 
     ghost invariant = { λ c. c.generation < 2 ^ 64 };
 }
@@ -57,25 +69,28 @@ impl Chip {
 
 /// Opens a chip: makes its memory stable and reads all of it.
 ///
-/// The chip has the trust and the generation that the memory reads as, and an empty session. From then on a crash leaves
-/// just what was read. Nothing is written.
+/// The chip has the trust and the generation that the memory reads as, and an empty session. From then on a crash
+/// leaves just what was read. Nothing is written.
 ///
 /// # Errors
 ///
 /// [`ChipRefusal::DiskFault`] where a device call failed, and [`ChipRefusal::NoChip`] exactly where none failed and the
-/// length is no memory's or the memory reads as no state.
+/// length is no memory's or the memory reads as no state. Where a `DiskFault` comes, the disk has counted it; with each
+/// other answer the count of faults is as it was, and at least one device call was made.
 pub fn open_chip<D: ChipDisk>(disk: &mut D) -> Result<Chip, ChipRefusal>
     requires { 32 ≤ D.spare disk.old }
     ensures chip { IfOk result (λ c. IsOpened c × (is_memory (D.size disk.old) ≡ true)) }
-    ensures answer { D.tells disk.old → Opens result (reads (D.told disk.old (D.moment disk.old)).bytes) (D.told disk.new (D.moment disk.new)) }
-    ensures looked { D.tells disk.old → IsLookedAt (D.told disk.old) (D.told disk.new) (D.moment disk.old) (D.moment disk.new) }
+    ensures answer { D.tells disk.old →
+        Opens result (reads (D.told disk.old (D.moment disk.old)).bytes) (D.told disk.new (D.moment disk.new)) }
+    ensures looked { D.tells disk.old →
+        IsLookedAt (D.told disk.old) (D.told disk.new) (D.moment disk.old) (D.moment disk.new) }
+    ensures found { result ≢ Err refusal.DiskFault → D.tells disk.old →
+        IsFoundIn (D.told disk.old) (D.told disk.new) (D.moment disk.old) (D.moment disk.new) }
+    ensures begun { result ≢ Err refusal.DiskFault → D.moment disk.old < D.moment disk.new }
     ensures refusals { IfErr result (λ e. (e ≡ refusal.NoChip) ⊎ (e ≡ refusal.DiskFault)) }
     ensures cause { result ≡ Err refusal.DiskFault → Rose (D.faults disk.old) (D.faults disk.new) }
-    ensures tells { D.tells disk.old → D.tells disk.new }
-    ensures size { D.size disk.new ≡ D.size disk.old }
-    ensures moment { (D.moment disk.old ≤ D.moment disk.new) × (D.moment disk.new ≤ D.moment disk.old + 17) }
-    ensures spare { D.spare disk.old ≤ D.spare disk.new + 17 }
-    ensures faults { D.faults disk.old ≤ D.faults disk.new }
+    ensures quiet { result ≢ Err refusal.DiskFault → D.faults disk.new ≡ D.faults disk.old }
+    ensures calls { DeviceCalls D.ChipDisk 17 disk.old disk.new }
 {
     match read_memory(disk) {
         Err(_) => Err(ChipRefusal::DiskFault),

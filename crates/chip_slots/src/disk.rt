@@ -1,20 +1,26 @@
 // A chip's disk.
 ghost use Rattle.std.specs.Prelude.{◌≡◌, ◌≤◌, ◌<◌, ◌+◌, ◌-◌, ℕ, length, OnOk, is_ok, slice_range};
 ghost use Rattle.eac_base.specs.Causes.{HasCause};
-ghost use Rattle.chip_slots.specs.Crash.{Standing, Reads, Writes, Syncs, DeviceCall};
+ghost use Rattle.chip_slots.specs.Crash.{Standing, Reads, Writes, Syncs, CountsCall, DeviceCall};
+
+pub mod file;
+pub mod memory;
+mod replay;
 
 use eac_base::{Failed, NoMemory};
 
-/// What a chip keeps its memory on: bytes of a fixed length, of which a crash may tear those that were written since the
-/// last sync that succeeded.
+/// What a chip keeps its memory on: bytes of a fixed length, of which a crash may tear those that were written since
+/// the last sync that succeeded.
 ///
-/// Each `read`, `write_at` and `sync` is a device call. A moment is the number of device calls so far. A disk in memory
-/// tells what stood at each moment; a file doesn't, and then the clauses on bytes say nothing.
+/// Each `read`, `write_at` and `sync` is a device call, and is counted; once the count stands at its last value each
+/// call fails. A moment is the number of device calls so far. A disk in memory tells what stood at each moment; a file
+/// doesn't, and then the clauses on bytes say nothing.
 ///
 /// # Errors
 ///
-/// A device call answers [`Failed`] only where the count of faults rose in it or stands at its last value. A reading or a
-/// sync that fails changes no byte; a write that fails leaves any bytes in its range.
+/// A device call answers [`Failed`] only where the count of faults rose in it or stands at its last value. A call that
+/// succeeds leaves that count. A reading or a sync that fails changes no byte; a write that fails leaves any bytes in
+/// its range.
 pub trait ChipDisk {
     /// Whether the disk tells what stands on it.
     ghost tells: { Self → Type 0 };
@@ -47,11 +53,13 @@ pub trait ChipDisk {
         requires range { at + length into.old ≤ size self.old }
         requires piece { length into.old ≤ 8192 }
         requires spare { 0 < spare self.old }
-        ensures bytes { OnOk result (tells self.old → into.new ≡ slice_range (told self.old (moment self.old)).bytes at (at + length into.old)) }
-        ensures stands { tells self.old → DeviceCall (is_ok result) Reads (moment self.old) (moment self.new) (told self.old) (told self.new) }
+        ensures bytes { OnOk result (tells self.old →
+            into.new ≡ slice_range (told self.old (moment self.old)).bytes at (at + length into.old)) }
+        ensures call { tells self.old → DeviceCall (is_ok result) Reads
+            (moment self.old) (moment self.new) (told self.old) (told self.new) }
         ensures tells { tells self.old → tells self.new }
         ensures size { size self.new ≡ size self.old }
-        ensures moment { (moment self.old ≤ moment self.new) × (moment self.new ≤ moment self.old + 1) }
+        ensures moment { CountsCall (is_ok result) (moment self.old) (moment self.new) }
         ensures spare { spare self.old - 1 ≤ spare self.new }
         ensures cause { HasCause (faults self.old) (faults self.new) result };
 
@@ -60,24 +68,26 @@ pub trait ChipDisk {
         requires range { at + length from.now ≤ size self.old }
         requires piece { length from.now ≤ 8192 }
         requires spare { 0 < spare self.old }
-        ensures stands { tells self.old → DeviceCall (is_ok result) (Writes at from.now (is_ok result)) (moment self.old) (moment self.new) (told self.old) (told self.new) }
+        ensures call { tells self.old → DeviceCall (is_ok result) (Writes at from.now (is_ok result))
+            (moment self.old) (moment self.new) (told self.old) (told self.new) }
         ensures tells { tells self.old → tells self.new }
         ensures size { size self.new ≡ size self.old }
-        ensures moment { (moment self.old ≤ moment self.new) × (moment self.new ≤ moment self.old + 1) }
+        ensures moment { CountsCall (is_ok result) (moment self.old) (moment self.new) }
         ensures spare { spare self.old - 1 ≤ spare self.new }
         ensures cause { HasCause (faults self.old) (faults self.new) result };
 
     /// Makes all bytes stable, so that a crash leaves what a read gives.
     fn sync(&mut self) -> Result<(), Failed>
         requires spare { 0 < spare self.old }
-        ensures stands { tells self.old → DeviceCall (is_ok result) (Syncs (is_ok result)) (moment self.old) (moment self.new) (told self.old) (told self.new) }
+        ensures call { tells self.old → DeviceCall (is_ok result) (Syncs (is_ok result))
+            (moment self.old) (moment self.new) (told self.old) (told self.new) }
         ensures tells { tells self.old → tells self.new }
         ensures size { size self.new ≡ size self.old }
-        ensures moment { (moment self.old ≤ moment self.new) × (moment self.new ≤ moment self.old + 1) }
+        ensures moment { CountsCall (is_ok result) (moment self.old) (moment self.new) }
         ensures spare { spare self.old - 1 ≤ spare self.new }
         ensures cause { HasCause (faults self.old) (faults self.new) result };
 
-    /// Takes room for 32 device calls. It is no device call, and changes nothing else.
+    /// ImportsCert room for 32 device calls. It is no device call, and changes nothing else.
     ///
     /// # Errors
     ///

@@ -4,7 +4,6 @@
 mod certs;
 
 use self::certs::{DOMESTIC, FIRST_TO_SECOND, ROOT, SECOND_TO_THIRD};
-use crate::memory_reading::is_memory;
 use crate::{Chip, ChipDisk, ChipRefusal, FileDisk, MakeRefusal, MemoryDisk, make_chip, open_chip};
 use chip_verify::Imported;
 use cv_dates::day_from_text;
@@ -72,8 +71,8 @@ fn given(
     bytes: &[u8],
 ) -> Result<Imported, ChipRefusal> {
     let mut provider = DigestProvider::new(alloc, [0; 32]);
-    if disk.reserve().is_err() || !is_memory(disk.len()) {
-        panic!(rt; "a memory");
+    if disk.reserve().is_err() {
+        panic!(rt; "memory");
     }
     let imported = chip.import(disk, &mut provider, bytes);
     drop(provider);

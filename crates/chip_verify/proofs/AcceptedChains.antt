@@ -16,7 +16,8 @@ use Rattle.chip_verify.specs.declared.answers.ImportRefusal.TheVariants as refus
 use Rattle.chip_verify.specs.Trust.{Trust, points, older_points, ComesBefore, IsTrust}
 use Rattle.chip_verify.specs.Session.{SessionValue, no_session}
 use Rattle.chip_verify.specs.Later.{IsAmong}
-use Rattle.chip_verify.specs.Refusals.{Sort, Link, OfVerifier, OfTerminal, sort_of, is_link, Issuer, Point, Verifier, key_of, older_named, verifier_named, or_else, issuer_of, is_held, template_of, same_algorithm, first_refusal}
+use Rattle.signature_provider.specs.Key.{same_algorithm}
+use Rattle.chip_verify.specs.Refusals.{Sort, Link, OfVerifier, OfTerminal, sort_of, is_link, Issuer, Point, Verifier, key_of, older_named, verifier_named, or_else, issuer_of, is_held, template_of, first_refusal}
 use Rattle.chip_verify.specs.Step.{trust_after, session_after, verified, Step, verdict_under, verdict_on}
 use Rattle.chip_verify.specs.GoodChain.{IsLink, AreLinks, points_with, latest, IsVerifier, IsTerminal, IsNone, GoodChain, Accepts}
 use Rattle.chip_verify.proofs.Links.{step_trust, behind_kind}

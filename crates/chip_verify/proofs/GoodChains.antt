@@ -7,7 +7,7 @@ use Rattle.eac_base.proofs.EqualBytes.{bytes_eq-self, bytes_eq-true}
 use Rattle.eac_base.specs.Bytes.{is_empty}
 use Rattle.chat_rights.specs.declared.Role.{Role}
 use Rattle.chat_rights.specs.declared.Role.TheVariants.{Terminal, Foreign, Domestic, Cvca}
-use Rattle.signature_provider.specs.Key.{is_elliptic}
+use Rattle.signature_provider.specs.Key.{is_elliptic, same_algorithm}
 use Rattle.signature_provider.specs.Provider.{Says}
 use Rattle.signature_provider.specs.declared.key.Algorithm.{Algorithm}
 use Rattle.cvc_grammar.specs.declared.certificate.CertBody.{CertBody}
@@ -18,7 +18,7 @@ use Rattle.chip_verify.specs.declared.answers.ImportRefusal.TheVariants as refus
 use Rattle.chip_verify.specs.Trust.{Trust, points, older_points, IsTrust}
 use Rattle.chip_verify.specs.Session.{SessionValue, no_session}
 use Rattle.chip_verify.specs.Later.{IsAmong}
-use Rattle.chip_verify.specs.Refusals.{Sort, Link, OfVerifier, OfTerminal, sort_of, Issuer, Point, Verifier, older_named, verifier_named, or_else, issuer_of, wrong_role, same_algorithm, first_refusal}
+use Rattle.chip_verify.specs.Refusals.{Sort, Link, OfVerifier, OfTerminal, sort_of, Issuer, Point, Verifier, older_named, verifier_named, or_else, issuer_of, wrong_role, first_refusal}
 use Rattle.chip_verify.specs.Step.{trust_after, session_after, verified, Step, verdict_under, verdict_on}
 use Rattle.chip_verify.specs.GoodChain.{linked, IsLink, AreLinks, IsVerifier, IsTerminal, IsNone, GoodChain, Accepts, AllLinks, AreInOrder, IsAccepted}
 use Rattle.chip_verify.proofs.AcceptedChains.{good_chain_accepted}

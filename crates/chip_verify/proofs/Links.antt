@@ -22,6 +22,13 @@ pub either_false : (a b : Bool) → (a || b) ≡ false → (a ≡ false) × (b �
 either_false true b h = absurd (cc)
 either_false false b h = (refl, h)
 
+shown : (b : Bool) → not b ≡ false → b ≡ true
+shown true h = refl
+shown false h = absurd (cc)
+
+later_than : (a b : ℕ) → nat_le a b ≡ false → b < a
+later_than a b h = grind (arith, nat_tests)
+
 -- with one kind, two are the same
 pub one_kind : (a b : Kind) → same_kind a b ≡ true
 one_kind Inspection Inspection = refl
@@ -41,11 +48,11 @@ link_passed t c i none =
     let key = found_none _ _ _ role.1 in
     let branch = found_none (not (bytes_eq t.newest.reference c.authority)) _ _ key.1 in
     let late = found_none (nat_le c.from t.newest.from) _ _ branch.1 in
-    let same : bytes_eq t.newest.reference c.authority ≡ true = grind (arith, nat_tests) in
+    let same : bytes_eq t.newest.reference c.authority ≡ true = shown (bytes_eq t.newest.reference c.authority) branch.0 in
     record {
       newest = same;
       other = (either_false (not (is_point i)) (bytes_eq c.authority c.holder) role.0).1;
-      later = grind (arith, nat_tests, late.0);
+      later = later_than c.from t.newest.from late.0;
     }
 
 pub link_facts : (t : Trust) (s : SessionValue) (c : CertBody) (i : Issuer) → issuer_of t s c ≡ Some i → refusal_of t s c ≡ None → sort_of c.template.role ≡ Link → LinkFacts t c

@@ -18,7 +18,8 @@ use Rattle.chip_verify.specs.declared.answers.Checked.TheVariants as checks
 use Rattle.chip_verify.specs.declared.trust_point.TrustPoint.{TrustPoint}
 use Rattle.chip_verify.specs.Trust.{Trust}
 use Rattle.chip_verify.specs.Session.{SessionValue}
-use Rattle.chip_verify.specs.Refusals.{sort_of, is_link, same_template, same_algorithm, same_kept_key, is_of, IsOwn, refused_or_ask, refusal_of, checked, is_held}
+use Rattle.signature_provider.specs.Key.{same_algorithm}
+use Rattle.chip_verify.specs.Refusals.{sort_of, is_link, same_template, same_kept_key, is_of, IsOwn, refused_or_ask, refusal_of, checked, is_held}
 
 role_of_link : (r : Role) → is_link (sort_of r) ≡ true → r ≡ Cvca
 role_of_link Cvca e = refl

@@ -15,7 +15,8 @@ use Rattle.signature_provider.specs.Provider.{PublicKey, same_key}
 use Rattle.cvc_grammar.proofs.KeyAgain.{and_both}
 use Rattle.chip_verify.specs.declared.trust_point.TrustPoint.{TrustPoint}
 use Rattle.chip_verify.specs.Trust.{Trust}
-use Rattle.chip_verify.specs.Refusals.{same_kind, same_template, same_algorithm}
+use Rattle.signature_provider.specs.Key.{same_algorithm}
+use Rattle.chip_verify.specs.Refusals.{same_kind, same_template}
 use Rattle.chip_verify.specs.Same.{same_point, same_older, same_trust}
 
 pub both_true : (a b : Bool) → a ≡ true → b ≡ true → (a && b) ≡ true

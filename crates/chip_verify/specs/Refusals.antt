@@ -11,7 +11,7 @@ use Rattle.chat_rights.specs.declared.Role.TheVariants.{Cvca, Domestic, Foreign,
 use Rattle.chat_rights.specs.declared.Template.{Template}
 use Rattle.chat_rights.specs.Template.{role_number}
 use Rattle.signature_provider.specs.declared.key.Algorithm.{Algorithm}
-use Rattle.signature_provider.specs.Key.{is_elliptic}
+use Rattle.signature_provider.specs.Key.{is_elliptic, same_algorithm}
 use Rattle.signature_provider.specs.Provider.{PublicKey}
 use Rattle.cvc_grammar.specs.declared.certificate.CertBody.{CertBody}
 use Rattle.chip_verify.specs.declared.trust_point.TrustPoint.{TrustPoint}
@@ -97,9 +97,6 @@ same_kind Inspection Inspection = true
 
 abbrev pub same_template : Template → Template → Bool
 same_template a b = same_kind a.kind b.kind && (role_number a.role == role_number b.role) && (a.rights == b.rights)
-
-abbrev pub same_algorithm : Algorithm → Algorithm → Bool
-same_algorithm a b = (a.arc == b.arc) && (a.last == b.last)
 
 -- The key's parts are those of the kept key, the domain where there is one.
 abbrev pub same_kept_key : Algorithm → List ℕ → List ℕ → PublicKey → Bool

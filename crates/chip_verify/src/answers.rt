@@ -3,6 +3,8 @@ ghost use Rattle.std.specs.Prelude.{◌≡◌};
 ghost use Rattle.chip_verify.specs.Refusals.{refusal_number};
 
 use crate::{ChipState, Session};
+use std::error::Error;
+use std::fmt;
 
 /// Why a chip doesn't take a certificate: the first row of the table that applies, in this order.
 #[derive(Clone, Copy, Debug, PartialEq, Eq)]
@@ -14,8 +16,8 @@ pub enum ImportRefusal {
     /// A trust point doesn't vouch for terminals, and a verifier vouches for terminals alone; or a link is from a
     /// reference to that same reference.
     Role,
-    /// A verifier's or terminal's key has another algorithm than its issuer's, or any domain; or a link's elliptic key has
-    /// no domain and its issuer's key isn't elliptic.
+    /// A verifier's or terminal's key has another algorithm than its issuer's, or any domain; or a link's elliptic key
+    /// has no domain and its issuer's key isn't elliptic.
     Parameters,
     /// It isn't a link, and its issuer has expired at the chip's day.
     IssuerExpired,
@@ -47,6 +49,24 @@ impl ImportRefusal {
         }
     }
 }
+
+impl fmt::Display for ImportRefusal {
+    fn fmt<W: fmt::Write>(&self, f: &mut fmt::Formatter<W>) -> fmt::Result {
+        f.write_str(match self {
+            ImportRefusal::NoIssuer => "the chip knows no issuer of this name",
+            ImportRefusal::TypeDiffers => "it is for another type of terminal than its issuer",
+            ImportRefusal::Role => "its issuer doesn't vouch for this role",
+            ImportRefusal::Parameters => "its key doesn't fit its issuer's",
+            ImportRefusal::IssuerExpired => "its issuer has expired",
+            ImportRefusal::Expired => "it has expired",
+            ImportRefusal::Branch => "the link isn't from the newest trust point",
+            ImportRefusal::NotLater => "the link isn't later than the newest trust point",
+            ImportRefusal::Signature => "its signature is wrong",
+        })
+    }
+}
+
+impl Error for ImportRefusal {}
 
 /// What an imported certificate was.
 #[derive(Clone, Copy, Debug, PartialEq, Eq)]

@@ -5,7 +5,7 @@ ghost use Rattle.chip_verify.specs.Refusals.{IsOwn};
 ghost use Rattle.chip_verify.specs.Views.{seen_body, Weighs};
 
 use crate::issuer::{Voucher, issuer_named};
-use crate::same::{is_same_algorithm, is_same_template};
+use crate::same::is_same_template;
 use crate::table::{first_refusal, is_link};
 use crate::{Checked, ChipKey, ChipState, ImportRefusal, Session, TrustPoint};
 use cvc_grammar::CertView;
@@ -24,7 +24,7 @@ pub enum Weighed<'a> {
 fn is_key_of(key: KeyView, kept: &ChipKey) -> bool
     ensures { result ≡ words.same_kept_key key.entry.algorithm key.entry.domain.now key.entry.point.now kept.now }
 {
-    is_same_algorithm(key.algorithm, kept.algorithm)
+    key.algorithm == kept.algorithm
         && is_same(key.point, kept.point.as_slice())
         && (key.domain.is_empty() || is_same(key.domain, kept.domain.as_slice()))
 }
@@ -58,8 +58,8 @@ pub fn weigh<'a>(state: &'a ChipState, session: &'a Session, cert: &CertView) ->
 
 /// What a certificate is found to be by all rows of the table but the last, before its signature is looked at.
 ///
-/// It is `Held` where all that a chip keeps of it is the newest trust point's, its domain being absent or equal. Else the
-/// first row that applies refuses it. Else it asks for the signature.
+/// It is `Held` where all that a chip keeps of it is the newest trust point's, its domain being absent or equal. Else
+/// the first row that applies refuses it. Else it asks for the signature.
 pub fn check(state: &ChipState, session: &Session, cert: &CertView) -> Checked
     ensures held { (result ≡ Checked.Held) ↔ IsOwn state.now.newest (seen_body cert.now) }
     ensures exact { result ≡ words.checked state.now session.now (seen_body cert.now) }

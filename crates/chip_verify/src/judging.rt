@@ -41,8 +41,8 @@ fn judge_signature<P: SignatureProvider>(
 
 /// What a certificate is found to be by all rows of the table, and what follows where it is taken.
 ///
-/// The provider is asked for its signature over the whole body, by the issuer's key, exactly where [`check`](crate::check)
-/// answers `Ask`. Nothing is stored.
+/// The provider is asked for its signature over the whole body, by the issuer's key, exactly where
+/// [`check`](crate::check) answers `Ask`. Nothing is stored.
 ///
 /// # Errors
 ///
@@ -100,7 +100,8 @@ pub fn import<P: SignatureProvider>(
     requires { IsView cert.now }
     ensures judged { IfOk result (Judges (P.says provider.old) state.old session.old (seen_cert cert.now)) }
     ensures stored { IfOk result (λ judged. Stores state.old session.old judged state.new session.new) }
-    ensures moves { IfOk result (λ _. Moves state.old session.old (seen_body cert.now) (verdict_on (P.says provider.old) state.old session.old (seen_cert cert.now)) state.new session.new) }
+    ensures moves { IfOk result (λ _. Moves state.old session.old (seen_body cert.now)
+        (verdict_on (P.says provider.old) state.old session.old (seen_cert cert.now)) state.new session.new) }
     ensures kept { OnErr result (Stands state.old session.old state.new session.new) }
     ensures failed { OnErr result (checked state.old session.old (seen_body cert.now) ≡ checks.Ask) }
     ensures unasked { checked state.old session.old (seen_body cert.now) ≢ checks.Ask → provider.new ≡ provider.old }

@@ -13,15 +13,16 @@ ghost use Rattle.chip_verify.specs.Grant.{Accepted, Leads, Granting};
 
 use crate::{ChipState, ImportRefusal, Judged, Session};
 
-/// A finished chain is good exactly where its certificates have the roles of a chain and are accepted one after another,
-/// from an empty session on.
+/// A finished chain is good exactly where its certificates have the roles of a chain and are accepted one after
+/// another, from an empty session on.
 pub fn good_chains_are_accepted()
-    ensures { (says : Says) (t : Trust) (links : List Cert) (v w : Cert) → IsTrust t → GoodChain says t links v w ↔ IsAccepted says t links v w }
+    ensures { (says : Says) (t : Trust) (links : List Cert) (v w : Cert) → IsTrust t → GoodChain says t links v w
+        ↔ IsAccepted says t links v w }
 {}
 
-/// After any certificates, from an empty session on, the session grants exactly the rights that stand in the last accepted
-/// verifier, in the last terminal after it and in the trust point of that verifier; and none where the accepted ones don't
-/// end so.
+/// After any certificates, from an empty session on, the session grants exactly the rights that stand in the last
+/// accepted verifier, in the last terminal after it and in the trust point of that verifier; and none where the
+/// accepted ones don't end so.
 pub fn sessions_grant_their_chain()
     ensures { (t : Trust) (cs : List (CertBody × Bool)) (t' : Trust) (s' : SessionValue) (told : List Accepted) →
         Leads t no_session cs [] t' s' told → (rights : ℕ) → (granted s' ≡ Some rights) ↔ Granting told rights }
@@ -45,7 +46,8 @@ pub fn later_never_goes_back()
 
 /// A certificate leads by a step to one trust and one session, and by none where it is held or refused.
 pub fn one_step_each()
-    ensures one { (t : Trust) (s : SessionValue) (c : CertBody) (verdict : Bool) (t' u' : Trust) (s' r' : SessionValue) →
+    ensures one { (t : Trust) (s : SessionValue) (c : CertBody)
+        (verdict : Bool) (t' u' : Trust) (s' r' : SessionValue) →
         Step t s c verdict t' s' → Step t s c verdict u' r' → (t' ≡ u') × (s' ≡ r') }
     ensures held { (says : Says) (t : Trust) (s : SessionValue) (c : Cert) →
         Judges says t s c Judged.Held → NoStep t s c.body (verdict_on says t s c) }

@@ -26,7 +26,7 @@ fn full_key(key: KeyView, issuer: &ChipKey) -> ChipKey
     requires point { length key.point.now ≤ 1024 }
     ensures { result ≡ words.full_public_key key.entry.algorithm key.entry.domain.now key.entry.point.now issuer.now }
 {
-    let domain = if key.algorithm.arc == 2 && key.domain.is_empty() {
+    let domain = if key.algorithm.is_elliptic() && key.domain.is_empty() {
         issuer.view().domain
     } else {
         key.domain

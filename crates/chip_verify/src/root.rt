@@ -12,7 +12,7 @@ use cvc_grammar::CertView;
 fn is_root(cert: &CertView) -> bool
     ensures { result ≡ words.is_root (seen_body cert.now) }
 {
-    is_link(cert.template.role) && !(cert.key.algorithm.arc == 2 && cert.key.domain.is_empty())
+    is_link(cert.template.role) && !(cert.key.algorithm.is_elliptic() && cert.key.domain.is_empty())
 }
 
 fn root_point(cert: &CertView) -> TrustPoint
@@ -25,7 +25,7 @@ fn root_point(cert: &CertView) -> TrustPoint
 impl ChipState {
     /// The state of a chip that is made with this certificate as its only trust point; `None` exactly where the
     /// certificate isn't an authority's, or its key is elliptic without a domain. Its signature isn't looked at.
-    pub fn first(root: &CertView, day: Day) -> Option<ChipState>
+    pub fn of_root(root: &CertView, day: Day) -> Option<ChipState>
         requires { IsView root.now }
         ensures { result ≡ words.first_trust (seen_body root.now) day }
     {

@@ -8,7 +8,6 @@ ghost use Rattle.chip_verify.specs.Same.{same_point, same_older, same_trust};
 use crate::{ChipKey, ChipState, TrustPoint};
 use chat_rights::{Kind, Role, Template};
 use eac_base::is_same;
-use signature_provider::Algorithm;
 
 pub fn is_same_kind(left: Kind, right: Kind) -> bool
     ensures { result ≡ words.same_kind left right }
@@ -37,17 +36,10 @@ pub fn is_same_template(left: Template, right: Template) -> bool
         && left.rights.bits() == right.rights.bits()
 }
 
-pub fn is_same_algorithm(left: Algorithm, right: Algorithm) -> bool
-    ensures { result ≡ words.same_algorithm left right }
-{
-    left.arc == right.arc && left.last == right.last
-}
-
 fn is_same_key(left: &ChipKey, right: &ChipKey) -> bool
     ensures { result ≡ same_key left.now right.now }
 {
-    left.algorithm.arc == right.algorithm.arc
-        && left.algorithm.last == right.algorithm.last
+    left.algorithm == right.algorithm
         && is_same(left.domain.as_slice(), right.domain.as_slice())
         && is_same(left.point.as_slice(), right.point.as_slice())
 }

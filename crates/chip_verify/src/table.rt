@@ -6,7 +6,7 @@ ghost use Rattle.chip_verify.specs.Refusals.{sort_of, until_of};
 ghost use Rattle.chip_verify.specs.Views.{seen_body, seen_issuer};
 
 use crate::issuer::Voucher;
-use crate::same::{is_same_algorithm, is_same_kind};
+use crate::same::is_same_kind;
 use crate::{ChipState, ImportRefusal};
 use chat_rights::Role;
 use cvc_grammar::CertView;
@@ -21,7 +21,8 @@ pub fn is_link(role: Role) -> bool
 }
 
 fn has_wrong_role(cert: &CertView, issuer: Voucher) -> bool
-    ensures { result ≡ words.wrong_role (seen_body cert.now) (seen_issuer issuer.entry) (sort_of cert.now.template.role) }
+    ensures { result ≡ words.wrong_role (seen_body cert.now) (seen_issuer issuer.entry)
+        (sort_of cert.now.template.role) }
 {
     match cert.template.role {
         Role::Cvca => !issuer.is_point() || cert.authority.is(&cert.holder),
@@ -33,18 +34,21 @@ fn has_wrong_role(cert: &CertView, issuer: Voucher) -> bool
 fn has_foreign_key(cert: &CertView, issuer: Voucher) -> bool
     ensures { result ≡ words.foreign_key (seen_body cert.now) (seen_issuer issuer.entry) }
 {
-    !cert.key.domain.is_empty() || !is_same_algorithm(cert.key.algorithm, issuer.key().algorithm)
+    !cert.key.domain.is_empty() || cert.key.algorithm != issuer.key().algorithm
 }
 
 // An elliptic key that neither has a domain nor can take its issuer's.
 fn lacks_domain(cert: &CertView, issuer: Voucher) -> bool
     ensures { result ≡ words.lacks_domain (seen_body cert.now) (seen_issuer issuer.entry) }
 {
-    cert.key.algorithm.arc == 2 && cert.key.domain.is_empty() && issuer.key().algorithm.arc != 2
+    cert.key.algorithm.is_elliptic()
+        && cert.key.domain.is_empty()
+        && !issuer.key().algorithm.is_elliptic()
 }
 
 fn has_wrong_key(cert: &CertView, issuer: Voucher) -> bool
-    ensures { result ≡ words.wrong_key (seen_body cert.now) (seen_issuer issuer.entry) (sort_of cert.now.template.role) }
+    ensures { result ≡ words.wrong_key (seen_body cert.now) (seen_issuer issuer.entry)
+        (sort_of cert.now.template.role) }
 {
     match cert.template.role {
         Role::Cvca => lacks_domain(cert, issuer),
@@ -53,7 +57,8 @@ fn has_wrong_key(cert: &CertView, issuer: Voucher) -> bool
 }
 
 fn issuer_has_expired(state: &ChipState, cert: &CertView, issuer: Voucher) -> bool
-    ensures { result ≡ (not (words.is_link (sort_of cert.now.template.role)) && nat_lt (until_of (seen_issuer issuer.entry)) state.now.day) }
+    ensures { result ≡ (not (words.is_link (sort_of cert.now.template.role))
+        && nat_lt (until_of (seen_issuer issuer.entry)) state.now.day) }
 {
     !is_link(cert.template.role) && issuer.until().number() < state.day.number()
 }
@@ -65,7 +70,8 @@ fn has_expired(state: &ChipState, cert: &CertView) -> bool
 }
 
 fn branches_off(state: &ChipState, cert: &CertView) -> bool
-    ensures { result ≡ (words.is_link (sort_of cert.now.template.role) && not (bytes_eq state.now.newest.reference cert.now.authority)) }
+    ensures { result ≡ (words.is_link (sort_of cert.now.template.role)
+        && not (bytes_eq state.now.newest.reference cert.now.authority)) }
 {
     is_link(cert.template.role) && !state.newest.reference.is(&cert.authority)
 }
@@ -78,7 +84,8 @@ fn is_not_later(state: &ChipState, cert: &CertView) -> bool
 
 /// The first row that applies to a certificate under this issuer, but the signature.
 pub fn first_refusal(state: &ChipState, cert: &CertView, issuer: Voucher) -> Option<ImportRefusal>
-    ensures { result ≡ words.first_refusal (sort_of cert.now.template.role) state.now (seen_body cert.now) (Some (seen_issuer issuer.entry)) }
+    ensures { result ≡ words.first_refusal (sort_of cert.now.template.role) state.now (seen_body cert.now)
+        (Some (seen_issuer issuer.entry)) }
 {
     if !is_same_kind(cert.template.kind, issuer.kind()) {
         Some(ImportRefusal::TypeDiffers)

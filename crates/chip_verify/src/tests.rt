@@ -28,7 +28,7 @@ fn made_on(rt: &impl Abort, text: &[u8], provider: DigestProvider) -> Chip {
         panic!(rt; "a certificate");
     };
     Chip {
-        state: ChipState::first(&root, day(rt, text)).expect(rt, "a root"),
+        state: ChipState::of_root(&root, day(rt, text)).expect(rt, "a root"),
         session: Session::new(),
         provider,
     }

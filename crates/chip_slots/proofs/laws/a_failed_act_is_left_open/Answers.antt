@@ -1,5 +1,5 @@
-use Rattle.chip_slots.proofs.RunsOfActs.{left_open}
+use Rattle.chip_slots.proofs.RunsOfActs.{earlier_open}
 use Rattle.chip_slots.proofs.laws.a_failed_act_is_left_open.Goals as goal
 
 pub returns : goal.returns
-returns c = left_open
+returns c = earlier_open

@@ -21,7 +21,7 @@ returns-in-Ok-clause-moves g c = (
     other = search rules;
     room = search rules;
     chip = c.in-Ok.ensures.ok;
-    leaves = λ tells stable. c.in-Ok.ensures.works tells stable;
+    leaves = λ tells stable. c.in-Ok.ensures.images tells stable;
     keeps = λ tells stable. c.in-Ok.ensures.done tells stable;
   }),
 )

@@ -1,0 +1,3 @@
+// The record of a slot.
+pub mod reading;
+pub mod writing;
