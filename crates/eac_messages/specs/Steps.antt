@@ -9,12 +9,20 @@ use Rattle.base64.specs.GeneralPurpose.{encode_of}
 use Rattle.eac_messages.specs.declared.refusal.Member.TheVariants as names
 use Rattle.eac_messages.specs.declared.refusal.MessageRefusal.TheVariants as refusals
 use Rattle.eac_messages.specs.declared.code.Code.{Code}
+use Rattle.eac_messages.specs.declared.message.Message.{Message}
+use Rattle.eac_messages.specs.declared.message.Message.TheVariants as messages
 use Rattle.eac_messages.specs.Body.{Step}
-use Rattle.eac_messages.specs.Base64.{base64_texts, AreAllBytes, bytes_of}
+use Rattle.eac_messages.specs.Base64.{base64_text, base64_texts, AreAllBytes, bytes_of}
 use Rattle.eac_messages.specs.Code.{carries_certificates}
 
 abbrev pub id_put : List ℕ → Members → Members
 id_put id ms = if is_empty id then ms else put (codes "messageID") (string id) ms
+
+-- The call's own member.
+abbrev pub content_put : Message → Members → Members
+content_put (messages.RequestCertificate id request) ms = put (codes "request") (base64_text request) ms
+content_put (messages.SendCertificates id certificates) ms = put (codes "certificates") (array (base64_texts certificates)) ms
+content_put (messages.GetCaCertificates id) ms = ms
 
 abbrev pub rule_put : Option ℕ → Members → Members
 rule_put None ms = ms

@@ -1,68 +1,47 @@
 // The one text of a call.
-ghost use Rattle.std.specs.Prelude.{◌≡◌, IfOk, IsUtf8};
-ghost use Rattle.serde_json.specs.Data.{array};
+ghost use Rattle.std.specs.Prelude.{◌≡◌, IfOk, OnOk};
 ghost use Rattle.serde_json.specs.View.{members_view};
 ghost use Rattle.eac_messages.specs.Message.{CanBeCalled, message_text, message_members};
-ghost use Rattle.eac_messages.specs.declared.message.Message.TheVariants as messages;
+ghost use Rattle.eac_messages.specs.Steps.{content_put};
 
 use crate::Message;
 use crate::base64_texts::{base64_value, base64_values};
 use crate::member_writing::{put_id, put_text, put_value, text_of};
-use eac_base::{ByteLists, NoMemory, Octets};
+use eac_base::{NoMemory, Octets};
 use serde_json::{Map, Value};
 use std::alloc::Global;
 
-fn request_members(alloc: Global, id: &[u8], request: &[u8]) -> Result<Map<String, Value>, NoMemory>
-    requires { IsUtf8 id.now }
-    ensures { IfOk result (λ m. members_view m.entries ≡ message_members (messages.RequestCertificate id.now request.now)) }
-{
-    let mut members = Map::new(alloc);
-    put_text(&mut members, alloc, "call", "RequestCertificate")?;
-    put_id(&mut members, alloc, id)?;
-    let value = base64_value(alloc, request)?;
-    put_value(&mut members, alloc, "request", value)?;
-    Ok(members)
-}
-
-fn sent_members(
+/// Puts the call's own member, where it has one.
+fn put_content(
+    members: &mut Map<String, Value>,
     alloc: Global,
-    id: &[u8],
-    certificates: &ByteLists,
-) -> Result<Map<String, Value>, NoMemory>
-    requires { IsUtf8 id.now }
-    ensures { IfOk result (λ m. members_view m.entries ≡ message_members (messages.SendCertificates id.now certificates.now)) }
+    message: &Message,
+) -> Result<(), NoMemory>
+    ensures { OnOk result (members_view members.new.entries
+        ≡ content_put message.now (members_view members.old.entries)) }
 {
-    let mut members = Map::new(alloc);
-    put_text(&mut members, alloc, "call", "SendCertificates")?;
-    put_id(&mut members, alloc, id)?;
-    let value = base64_values(alloc, certificates)?;
-    put_value(&mut members, alloc, "certificates", value)?;
-    Ok(members)
-}
-
-fn get_members(alloc: Global, id: &[u8]) -> Result<Map<String, Value>, NoMemory>
-    requires { IsUtf8 id.now }
-    ensures { IfOk result (λ m. members_view m.entries ≡ message_members (messages.GetCaCertificates id.now)) }
-{
-    let mut members = Map::new(alloc);
-    put_text(&mut members, alloc, "call", "GetCACertificates")?;
-    put_id(&mut members, alloc, id)?;
-    Ok(members)
+    match message {
+        Message::RequestCertificate { request, .. } => {
+            let value = base64_value(alloc, request.as_slice())?;
+            put_value(members, alloc, "request", value)
+        }
+        Message::SendCertificates { certificates, .. } => {
+            let value = base64_values(alloc, certificates)?;
+            put_value(members, alloc, "certificates", value)
+        }
+        Message::GetCaCertificates { .. } => Ok(()),
+    }
 }
 
 fn members_of(alloc: Global, message: &Message) -> Result<Map<String, Value>, NoMemory>
     requires { CanBeCalled message.now }
     ensures { IfOk result (λ m. members_view m.entries ≡ message_members message.now) }
 {
-    match message {
-        Message::RequestCertificate { id, request } => {
-            request_members(alloc, id.as_slice(), request.as_slice())
-        }
-        Message::SendCertificates { id, certificates } => {
-            sent_members(alloc, id.as_slice(), certificates)
-        }
-        Message::GetCaCertificates { id } => get_members(alloc, id.as_slice()),
-    }
+    let mut members = Map::new(alloc);
+    put_text(&mut members, alloc, "call", message.call().as_str())?;
+    put_id(&mut members, alloc, message.id())?;
+    put_content(&mut members, alloc, message)?;
+    Ok(members)
 }
 
 /// The message's text: no space, and its members in the order of their names. An empty identifier isn't written.
