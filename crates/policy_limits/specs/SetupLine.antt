@@ -6,6 +6,8 @@ use Rattle.std.specs.Str.{bytes_eq}
 use Rattle.eac_base.specs.Answers.{◌gives◌}
 use Rattle.eac_base.specs.Text.{decimal_of}
 use Rattle.holder_reference.specs.Reference.{read_holder}
+use Rattle.chat_rights.specs.Kinds.{rights_fit}
+use Rattle.chat_rights.specs.declared.Kind.TheVariants.{Inspection}
 use Rattle.chat_rights.specs.declared.Role.{Role}
 use Rattle.chat_rights.specs.declared.Role.TheVariants.{Cvca, Domestic, Foreign, Terminal}
 use Rattle.signature_provider.specs.declared.key.FormName.{FormName}
@@ -31,7 +33,7 @@ form_word w = if bytes_eq w (codes "ec") then Some Ec else (if bytes_eq w (codes
 
 -- RIGHTS: two hexadecimal digits that say 00 to 3F.
 abbrev pub rights_of : ℕ → Option ℕ
-rights_of bits = if nat_lt bits 64 then Some bits else None
+rights_of bits = if rights_fit Inspection bits then Some bits else None
 
 abbrev pub rights_word : List ℕ → Option ℕ
 rights_word w = byte_word w gives rights_of
@@ -100,16 +102,26 @@ abbrev pub authority_said : List (List ℕ) → Option SetupLine
 authority_said (w ∷ form ∷ rights ∷ rest) = one_word rest gives authority_of w form rights
 authority_said other = None
 
-abbrev pub registration_of : SetupValue → List ℕ → List ℕ → List ℕ → List ℕ → List ℕ → List ℕ → List ℕ → Bool → Option SetupLine
+abbrev pub registration_of : SetupValue → (desk w role rights days live first : List ℕ) → Bool → Option SetupLine
 registration_of r desk w role rights days live first suspended =
     named_party r desk gives λ at. role_word at.1.kind role gives λ named. holder_in r named w gives λ holder.
     rights_word rights gives λ bits. limited_word days gives λ n. limited_word live gives λ limit.
     first_word r at.1.kind first gives λ begin.
-    Some (said.Registration (record { desk = at.0; holder = holder; role = named; rights = bits; days = n; live_limit = limit; first = begin; suspended = suspended }))
+    Some (said.Registration (record {
+      desk = at.0;
+      holder = holder;
+      role = named;
+      rights = bits;
+      days = n;
+      live_limit = limit;
+      first = begin;
+      suspended = suspended;
+    }))
 
 -- `register DESK HOLDER ROLE RIGHTS DAYS LIVE FIRST`, and `suspended` or nothing
 abbrev pub registration_said : SetupValue → List (List ℕ) → Option SetupLine
-registration_said r (desk ∷ w ∷ role ∷ rights ∷ days ∷ live ∷ first ∷ rest) = suspended_words rest gives registration_of r desk w role rights days live first
+registration_said r (desk ∷ w ∷ role ∷ rights ∷ days ∷ live ∷ first ∷ rest) =
+    suspended_words rest gives registration_of r desk w role rights days live first
 registration_said r other = None
 
 -- The first word says the kind of the line.

@@ -48,7 +48,8 @@ pub record IsFirstFault (start : SetupValue) (lines : List (ℕ × List ℕ)) (r
 
 -- A text that is refused is refused for that line.
 abbrev pub FirstIsNamed : Type 0
-FirstIsNamed = (text : List ℕ) (refusal : SetupRefusal) → read_setup text ≡ Err refusal → IsFirstFault (setup_value [] []) (numbered_lines text) refusal
+FirstIsNamed = (text : List ℕ) (refusal : SetupRefusal) →
+    read_setup text ≡ Err refusal → IsFirstFault (setup_value [] []) (numbered_lines text) refusal
 
 -- ---- what the lines of a text that is read say
 
