@@ -16,7 +16,9 @@ code_text kinds.Outer = codes "failure_outer_signature"
 code_text kinds.Internal = codes "failure_internal_error"
 
 abbrev pub all_codes : List Code
-all_codes = kinds.CertAvailable ∷ kinds.Received ∷ kinds.Syntax ∷ kinds.NotAccepted ∷ kinds.Expired ∷ kinds.Domain ∷ kinds.Inner ∷ kinds.Outer ∷ kinds.Internal ∷ []
+all_codes =
+    kinds.CertAvailable ∷ kinds.Received ∷ kinds.Syntax ∷ kinds.NotAccepted ∷ kinds.Expired ∷ kinds.Domain ∷ kinds.Inner
+    ∷ kinds.Outer ∷ kinds.Internal ∷ []
 
 -- The code with this text.
 abbrev pub code_among : List Code → List ℕ → Option Code

@@ -24,9 +24,11 @@ call_name calls.GetCaCertificates = codes "GetCACertificates"
 -- The members in the order of their names.
 abbrev pub message_members : Message → Members
 message_members (messages.RequestCertificate id request) =
-    member (codes "call") (string (call_name calls.RequestCertificate)) (with_id id (member (codes "request") (base64_text request) no_members))
+    member (codes "call") (string (call_name calls.RequestCertificate))
+    (with_id id (member (codes "request") (base64_text request) no_members))
 message_members (messages.SendCertificates id certificates) =
-    member (codes "call") (string (call_name calls.SendCertificates)) (member (codes "certificates") (array (base64_texts certificates)) (with_id id no_members))
+    member (codes "call") (string (call_name calls.SendCertificates))
+    (member (codes "certificates") (array (base64_texts certificates)) (with_id id no_members))
 message_members (messages.GetCaCertificates id) =
     member (codes "call") (string (call_name calls.GetCaCertificates)) (with_id id no_members)
 

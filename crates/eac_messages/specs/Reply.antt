@@ -27,7 +27,9 @@ rule_members (Some rule) = member (codes "rule") (number (unsigned rule)) no_mem
 
 -- The members in the order of their names.
 abbrev pub reply_members : Reply → Members
-reply_members r = with_certificates r.code r.certificates (member (codes "code") (string (code_text r.code)) (with_id r.id (rule_members r.rule)))
+reply_members r =
+    with_certificates r.code r.certificates
+    (member (codes "code") (string (code_text r.code)) (with_id r.id (rule_members r.rule)))
 
 -- No space, and escapes where JSON asks for them.
 abbrev pub reply_text : Reply → List ℕ

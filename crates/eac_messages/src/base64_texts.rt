@@ -25,7 +25,7 @@ pub fn bytes_of(alloc: Global, text: &str, which: Member) -> Result<Octets, Mess
     match STANDARD.decode(alloc, text.as_bytes()) {
         Ok(bytes) => {
             are_bytes(bytes.as_slice());
-            Ok(Octets::from_slice(alloc, bytes.as_slice())?)
+            Ok(Octets::from_vec(bytes))
         }
         Err(DecodeAllocError::OutOfMemory) => Err(MessageRefusal::NoMemory),
         Err(DecodeAllocError::DecodeError(_)) => Err(MessageRefusal::Base64(which)),
@@ -54,7 +54,7 @@ fn all_bytes_of(alloc: Global, items: &[Value]) -> Result<ByteLists, MessageRefu
             return Err(MessageRefusal::Member(Member::Certificates));
         };
         let bytes = bytes_of(alloc, text, Member::Certificates)?;
-        lists.push(bytes.as_slice())?;
+        lists.push_octets(bytes)?;
     }
     Ok(lists)
 }

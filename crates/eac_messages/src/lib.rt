@@ -4,8 +4,8 @@
 //! return code, the rule of a refused request, and certificates. A body is one JSON object whose members these are;
 //! other members in it are passed over. Certificates and requests stand in it as standard base64 with padding.
 //!
-//! [`read_message`] and [`read_reply`] judge the whole body, as `serde_json` reads it, and answer the value or the first
-//! test that fails: the object, then each member in a fixed order, then the base64. [`write_message`] and
+//! [`read_message`] and [`read_reply`] judge the whole body, as `serde_json` reads it, and answer the value or the
+//! first test that fails: the object, then each member in a fixed order, then the base64. [`write_message`] and
 //! [`write_reply`] give the one compact text, and the functions of [`laws`] say how the two sides fit.
 //!
 //! What a certificate's bytes are, which call a party serves and what it replies is left to the layers above.

@@ -15,7 +15,8 @@ pub fn put_value(
     name: &str,
     value: Value,
 ) -> Result<(), NoMemory>
-    ensures { OnOk result (members_view members.new.entries ≡ put name.now (view value) (members_view members.old.entries)) }
+    ensures { OnOk result (members_view members.new.entries
+        ≡ put name.now (view value) (members_view members.old.entries)) }
 {
     serde_json::put(members, alloc, name, value)?;
     Ok(())
@@ -54,5 +55,5 @@ pub fn text_of(alloc: Global, members: Map<String, Value>) -> Result<Octets, NoM
     ensures { IfOk result (λ o. o ≡ compact_text (object (members_view members.entries))) }
 {
     let text = Value::Object(members).to_string(alloc)?;
-    Octets::from_slice(alloc, text.as_bytes())
+    Ok(Octets::from_vec(text.into_bytes()))
 }

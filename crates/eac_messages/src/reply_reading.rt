@@ -61,7 +61,8 @@ fn certificates_under(
 
 fn reply_in(alloc: Global, object: &Value) -> Result<Reply, MessageRefusal>
     ensures exact { Answers (λ r. r) refused_message result (words.reply_in (view object.now)) }
-    ensures content { IfOk result (λ r. AreCertificatesOf (carries_certificates r.code) r.certificates (view object.now)) }
+    ensures content { IfOk result (λ r.
+        AreCertificatesOf (carries_certificates r.code) r.certificates (view object.now)) }
     ensures text { IfOk result (λ r. IsUtf8 r.id) }
 {
     let code = code_in(object)?;
@@ -89,9 +90,9 @@ fn reply_of(alloc: Global, body: &[u8]) -> Result<Reply, MessageRefusal>
 /// The reply that the whole body is.
 ///
 /// The refusal is that of the first test that fails, in this order: the body is the JSON text of an object (`NotJson`);
-/// `code` is a text, one of the nine codes; `messageID` is left out or a text of at most 64 bytes; `rule` is left out or
-/// an integer from 1 to 14; `certificates` is an array of texts, where the code is [`Code::CertAvailable`] (`Member`); each
-/// of these texts is base64 (`Base64`).
+/// `code` is a text, one of the nine codes; `messageID` is left out or a text of at most 64 bytes; `rule` is left out
+/// or an integer from 1 to 14; `certificates` is an array of texts, where the code is [`Code::CertAvailable`]
+/// (`Member`); each of these texts is base64 (`Base64`).
 pub fn read_reply(alloc: Global, body: &[u8]) -> Result<Reply, MessageRefusal>
     ensures exact { Answers (λ r. r) refused_message result (words.read_reply body.now) }
     ensures found { IfOk result (λ r. IsReply r body.now) }
