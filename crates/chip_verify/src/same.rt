@@ -1,12 +1,11 @@
 // Whether two values are the same.
 ghost use Rattle.std.specs.Prelude.{◌≡◌, ◌↔◌, IsTrue};
-ghost use Rattle.chat_rights.specs.Template as template;
 ghost use Rattle.signature_provider.specs.Provider.{same_key};
 ghost use Rattle.chip_verify.specs.Refusals as words;
 ghost use Rattle.chip_verify.specs.Same.{same_point, same_older, same_trust};
 
 use crate::{ChipKey, ChipState, TrustPoint};
-use chat_rights::{Kind, Role, Template};
+use chat_rights::{Kind, Template};
 use eac_base::is_same;
 
 pub fn is_same_kind(left: Kind, right: Kind) -> bool
@@ -17,22 +16,11 @@ pub fn is_same_kind(left: Kind, right: Kind) -> bool
     }
 }
 
-fn role_number(role: Role) -> u8
-    ensures { result ≡ template.role_number role }
-{
-    match role {
-        Role::Terminal => 0,
-        Role::Foreign => 1,
-        Role::Domestic => 2,
-        Role::Cvca => 3,
-    }
-}
-
 pub fn is_same_template(left: Template, right: Template) -> bool
     ensures { result ≡ words.same_template left right }
 {
     is_same_kind(left.kind, right.kind)
-        && role_number(left.role) == role_number(right.role)
+        && left.role.number() == right.role.number()
         && left.rights.bits() == right.rights.bits()
 }
 
