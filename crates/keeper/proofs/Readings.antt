@@ -1,17 +1,17 @@
 -- Readings of a plain list, step by step.
-use Rattle.std.proofs.Common.{◌≡◌, ℕ, ◌<◌, ◌≤◌, Bool, true, false, cond, List, [], ◌∷◌, length, Ok, Err, refl, sym, ap, ◌∙◌, subst, arith, nat_le}
-use Rattle.std.specs.Prelude.{◌&&◌, filter, IfErr}
+use Rattle.std.proofs.Common.{◌≡◌, ℕ, suc, Bool, true, false, cond, List, [], ◌∷◌, Some, None, Ok, Err, refl, sym, ap, ◌∙◌, subst, arith, Bor}
+use Rattle.std.specs.Prelude.{◌&&◌, filter, IfErr, IfSome}
+use Rattle.std.specs.Option.{option_copied}
+use Rattle.std.specs.declared.option.Option.{Option}
 use Rattle.std.specs.List.{All}
-use Rattle.std.proofs.lemmas.Bool.{lt-leb}
-use Rattle.std.proofs.lemmas.List.Sums.{length-filter, count_by-le-length}
 use Rattle.std.proofs.lemmas.List.Elements.{filter_passes, All-filter}
 use Rattle.keeper.specs.declared.rows.Row.{Row}
 use Rattle.keeper.specs.declared.rows.Table.{Table}
 use Rattle.std.specs.declared.result.Result.{Result}
 use Rattle.keeper.specs.declared.keeping.KeepRefusal.{KeepRefusal}
 use Rattle.keeper.specs.declared.keeping.KeepRefusal.TheVariants.{NoMemory}
-use Rattle.keeper.specs.Rows.{is_of, is_of_holder, rows_of, holder_rows, most_rows, IsStorable}
-use Rattle.keeper.specs.Keeping.{ReadingRefused, Gives, IsGivenAs, IsDeskRow, IsHolderRow}
+use Rattle.keeper.specs.Rows.{is_of, is_of_holder, has_key, row_at, rows_of, holder_rows, IsStorable}
+use Rattle.keeper.specs.Keeping.{ReadingRefused, Gives, IsGivenAs, IsAsked, IsDeskRow, IsHolderRow}
 
 -- ---- filters
 
@@ -39,14 +39,6 @@ holder_asked table desk holder rows h = λ k d within. (
   All-filter (is_of_holder holder) (IsDeskRow table desk) (rows_of table desk rows) (desk_asked table desk rows h) k d within,
 )
 
--- ---- a short list has no full desk
-
-not_full : (n m : ℕ) → m ≤ n → n < most_rows → nat_le most_rows n ≡ nat_le most_rows m
-not_full n m within e = lt-leb most_rows n e ∙ sym (lt-leb most_rows m (omega (arith, within, e)))
-
-pub short_list : (table : Table) (desk : ℕ) (rows : List Row) → length rows < most_rows → nat_le most_rows (length rows) ≡ nat_le most_rows (length (rows_of table desk rows))
-short_list table desk rows e = not_full (length rows) (length (rows_of table desk rows)) (subst (λ n. n ≤ length rows) (sym (length-filter (is_of table desk) rows)) (count_by-le-length (is_of table desk) rows)) e
-
 -- ---- what a reading answers
 
 only_memory : (refusal : KeepRefusal) → refusal ≡ NoMemory → ReadingRefused refusal
@@ -59,3 +51,21 @@ gives_asked P said (Err refusal) p g own = only_memory refusal own
 pub gives_same : {T : Type 0} (one other : T) → one ≡ other → (result : Result T KeepRefusal) → Gives one result → Gives other result
 gives_same one other e (Ok given) g = g ∙ e
 gives_same one other e (Err refusal) g = tt
+
+-- ---- the row of a key
+
+module _ (table : Table) (desk : ℕ) (reference : List ℕ) where
+  asked_step : (b : Bool) (row : Row) (rest : Option Row) → has_key table desk reference row ≡ b → IsStorable row → IfSome rest (IsAsked table desk reference) → IfSome (cond b (Some row) rest) (IsAsked table desk reference)
+  asked_step true row rest e s h = (e, s)
+  asked_step false row rest e s h = h
+
+  found_asked : (rows : List Row) → All IsStorable rows → IfSome (row_at table desk reference rows) (IsAsked table desk reference)
+  found_asked [] all = tt
+  found_asked (row ∷ rows) all = asked_step (has_key table desk reference row) row (row_at table desk reference rows) refl (all 0 row (omega arith)) (found_asked rows (λ k d within. all (suc k) d (omega (arith, within))))
+
+  copied_so : (P : Row → Type 0) (result : Option (Bor Row)) (found : Option Row) → option_copied result ≡ found → IfSome found P → IfSome result (λ row. P row.now)
+  copied_so P None found e h = tt
+  copied_so P (Some row) found e h = subst (λ o. IfSome o P) (sym e) h
+
+  pub lent_asked : (rows : List Row) (result : Option (Bor Row)) → All IsStorable rows → option_copied result ≡ row_at table desk reference rows → IfSome result (λ row. IsAsked table desk reference row.now)
+  lent_asked rows result all e = copied_so (IsAsked table desk reference) result (row_at table desk reference rows) e (found_asked rows all)

@@ -96,13 +96,13 @@ module _ (desk : ℕ) (reference : List ℕ) (settled : Settled) where
 
   -- ---- keys stay
 
-  abbrev now : Row → Row
+  abbrev pub now : Row → Row
   now row = cond (has_key Own desk reference row) (with_settled settled row) row
 
-  record SameKey (a b : Row) : Type 0 where
-    table : table_of a.part ≡ table_of b.part
-    at_desk : a.desk ≡ b.desk
-    named : a.reference ≡ b.reference
+  pub record SameKey (a b : Row) : Type 0 where
+    pub table : table_of a.part ≡ table_of b.part
+    pub at_desk : a.desk ≡ b.desk
+    pub named : a.reference ≡ b.reference
 
   same_part : (p : Part) → table_of (settled_part settled p) ≡ table_of p
   same_part (part.Register request day) = refl
@@ -110,7 +110,7 @@ module _ (desk : ℕ) (reference : List ℕ) (settled : Settled) where
   same_part (part.Own p) = refl
   same_part (part.Ca p) = refl
 
-  keeps_key : (b : Bool) (row : Row) → SameKey (cond b (with_settled settled row) row) row
+  pub keeps_key : (b : Bool) (row : Row) → SameKey (cond b (with_settled settled row) row) row
   keeps_key true row = record { table = same_part row.part; at_desk = refl; named = refl }
   keeps_key false row = record { table = refl; at_desk = refl; named = refl }
 
@@ -151,7 +151,7 @@ module _ (desk : ℕ) (reference : List ℕ) (settled : Settled) where
 
   -- what holds of the rows, and of the rows with the row settled
   module _ (P : List Row → Type 0) (old : List Row) (k : P old) (l : P (settled_rows desk reference settled old)) where
-    settles_keeps : {U : Type 0} (new : List Row) (result : Result U KeepRefusal) → Settles old new desk reference settled result → P new
+    pub settles_keeps : {U : Type 0} (new : List Row) (result : Result U KeepRefusal) → Settles old new desk reference settled result → P new
     settles_keeps new (Ok u) h = subst P (sym h.1) l
     settles_keeps new (Err Failed) h = ⊎_elim (λ (e : new ≡ old). subst P (sym e) k) (λ (e : MaySettle old desk reference × (new ≡ settled_rows desk reference settled old)). subst P (sym e.1) l) h
     settles_keeps new (Err Full) h = absurd h

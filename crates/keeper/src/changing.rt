@@ -1,15 +1,18 @@
-// What changes a plain list of rows.
-ghost use Rattle.std.specs.Prelude.{◌≡◌, ◌≢◌, ◌⊎◌, Some, Err, length, nat_le};
+// What changes a list of rows and its index.
+ghost use Rattle.std.specs.Prelude.{◌≡◌, ◌≢◌, ◌⊎◌, ◌∷◌, ◌++◌, [], Some, None, Err, OnOk, OnErr};
 ghost use Rattle.std.specs.List.{All};
 ghost use Rattle.keeper.specs.declared.keeping.KeepRefusal.TheVariants.{Failed, Twice, NoMemory as RefusedNoMemory};
 ghost use Rattle.keeper.specs.declared.plan.Moment.TheVariants.{After as AfterChange};
-ghost use Rattle.keeper.specs.Rows.{rows_of, most_rows, settled_rows, UniqueKeys, IsStorable, IsStorableSettled};
+ghost use Rattle.keeper.specs.Rows.{kept_row, settled_rows, UniqueKeys, IsStorable, IsStorableSettled};
 ghost use Rattle.keeper.specs.Keeping.{Adds, AddAsked, Settles, SettleAsked};
 ghost use Rattle.keeper.specs.Planned.{AddsAt, SettlesAt};
-ghost use Rattle.keeper.specs.Steps.{Waits, failed_after};
+ghost use Rattle.keeper.specs.Index.{IsIndex};
+ghost use Rattle.keeper.specs.Steps.{Addable, Waits, failed_after};
 
-use crate::reading::{count_of, own_place, row_at};
+use crate::index::Index;
+use crate::reading::{count_of, row_at};
 use crate::{KeepRefusal, MOST_ROWS, Row, Settled, Table};
+use eac_base::NoMemory;
 use holder_reference::Reference;
 use std::alloc::Global;
 
@@ -33,72 +36,115 @@ fn fail_after(done: Result<(), KeepRefusal>) -> Result<(), KeepRefusal>
     }
 }
 
-// Whether a desk has as many rows in a table as it may. Only a long list is counted.
-fn is_full(rows: &[Row], table: Table, desk: u32) -> bool
-    ensures { result ≡ nat_le most_rows (length (rows_of table desk rows.now)) }
-{
-    MOST_ROWS <= rows.len() as u64 && MOST_ROWS <= count_of(rows, table, desk) as u64
-}
-
-// Appends a row that may be added.
-fn try_append(alloc: Global, rows: &mut Vec<Row>, row: &Row) -> Result<(), KeepRefusal>
-    requires { All IsStorable rows.old.items }
-    ensures told { Adds rows.old.items rows.new.items row.now result }
+// Why a row can't be added, where it can't.
+fn addable(alloc: Global, rows: &[Row], index: &Index, row: &Row) -> Result<(), KeepRefusal>
+    requires rows { All IsStorable rows.now }
+    requires index { IsIndex index.now rows.now }
+    ensures told { Addable rows.now row.now result }
     ensures asked { AddAsked row.now result }
     ensures own { result ≢ Err Failed }
 {
-    if let Some(kept) = row_at(rows, row.part.table(), row.desk, &row.reference) {
+    let table = row.part.table();
+    if let Some(kept) = row_at(rows, index, table, row.desk, &row.reference) {
         return Err(twice(alloc, kept));
     }
-    if is_full(rows, row.part.table(), row.desk) {
+    if MOST_ROWS <= count_of(rows, index, table, row.desk) as u64 {
         return Err(KeepRefusal::Full);
-    }
-    let Ok(row) = row.copy(alloc) else {
-        return Err(KeepRefusal::NoMemory);
-    };
-    if rows.push(row).is_err() {
-        return Err(KeepRefusal::NoMemory);
     }
     Ok(())
 }
 
-// The same, and what it keeps of the rows.
-pub(crate) fn append(alloc: Global, rows: &mut Vec<Row>, row: &Row) -> Result<(), KeepRefusal>
+// Appends a row that may be added.
+fn push(alloc: Global, rows: &mut Vec<Row>, index: &mut Index, row: &Row) -> Result<(), NoMemory>
+    requires index { IsIndex index.old rows.old.items }
+    requires new { kept_row row.now rows.old.items ≡ None }
+    ensures pushed { OnOk result (rows.new.items ≡ rows.old.items ++ row.now ∷ []) }
+    ensures kept { OnErr result (rows.new.items ≡ rows.old.items) }
+    ensures index { IsIndex index.new rows.new.items }
+{
+    let copy = row.copy(alloc)?;
+    rows.reserve(1)?;
+    index.file(row, rows.len())?;
+    if rows.push(copy).is_err() {
+        unreachable!()
+    }
+    Ok(())
+}
+
+fn try_append(
+    alloc: Global,
+    rows: &mut Vec<Row>,
+    index: &mut Index,
+    row: &Row,
+) -> Result<(), KeepRefusal>
     requires rows { All IsStorable rows.old.items }
+    requires index { IsIndex index.old rows.old.items }
+    ensures told { Adds rows.old.items rows.new.items row.now result }
+    ensures asked { AddAsked row.now result }
+    ensures own { result ≢ Err Failed }
+    ensures index { IsIndex index.new rows.new.items }
+{
+    addable(alloc, rows, index, row)?;
+    match push(alloc, rows, index, row) {
+        Ok(()) => Ok(()),
+        Err(_) => Err(KeepRefusal::NoMemory),
+    }
+}
+
+// The same, and what it keeps of the rows.
+pub(crate) fn append(
+    alloc: Global,
+    rows: &mut Vec<Row>,
+    index: &mut Index,
+    row: &Row,
+) -> Result<(), KeepRefusal>
+    requires rows { All IsStorable rows.old.items }
+    requires index { IsIndex index.old rows.old.items }
     requires row { IsStorable row.now }
     ensures told { Adds rows.old.items rows.new.items row.now result }
     ensures asked { AddAsked row.now result }
     ensures own { result ≢ Err Failed }
     ensures unique { UniqueKeys rows.old.items → UniqueKeys rows.new.items }
     ensures storable { All IsStorable rows.new.items }
+    ensures index { IsIndex index.new rows.new.items }
 {
-    try_append(alloc, rows, row)
+    try_append(alloc, rows, index, row)
 }
 
 // The same, but that it fails after its change.
 pub(crate) fn append_and_fail(
     alloc: Global,
     rows: &mut Vec<Row>,
+    index: &mut Index,
     row: &Row,
 ) -> Result<(), KeepRefusal>
     requires rows { All IsStorable rows.old.items }
+    requires index { IsIndex index.old rows.old.items }
     requires row { IsStorable row.now }
     ensures told { Adds rows.old.items rows.new.items row.now result }
     ensures asked { AddAsked row.now result }
     ensures planned { AddsAt (Some AfterChange) rows.old.items rows.new.items row.now result }
     ensures unique { UniqueKeys rows.old.items → UniqueKeys rows.new.items }
     ensures storable { All IsStorable rows.new.items }
+    ensures index { IsIndex index.new rows.new.items }
 {
-    fail_after(append(alloc, rows, row))
+    fail_after(append(alloc, rows, index, row))
 }
 
 // Whether the own row of a key waits for its certificate.
-fn waits(alloc: Global, rows: &[Row], desk: u32, reference: &Reference) -> Result<(), KeepRefusal>
-    requires { All IsStorable rows.now }
+fn waits(
+    alloc: Global,
+    rows: &[Row],
+    index: &Index,
+    desk: u32,
+    reference: &Reference,
+) -> Result<(), KeepRefusal>
+    requires rows { All IsStorable rows.now }
+    requires index { IsIndex index.now rows.now }
     ensures told { Waits rows.now desk reference.now result }
     ensures asked { SettleAsked desk reference.now result }
 {
-    match row_at(rows, Table::Own, desk, reference) {
+    match row_at(rows, index, Table::Own, desk, reference) {
         Some(row) => {
             if row.part.is_settled() {
                 Err(twice(alloc, row))
@@ -111,11 +157,12 @@ fn waits(alloc: Global, rows: &[Row], desk: u32, reference: &Reference) -> Resul
 }
 
 // Gives the own row of a key its certificate, where it is there.
-fn settle_own(rows: &mut [Row], desk: u32, reference: &Reference, settled: Settled)
-    requires { UniqueKeys rows.old }
+fn settle_own(rows: &mut [Row], index: &Index, desk: u32, reference: &Reference, settled: Settled)
+    requires unique { UniqueKeys rows.old }
+    requires index { IsIndex index.now rows.old }
     ensures { rows.new ≡ settled_rows desk reference.now settled rows.old }
 {
-    if let Some(at) = own_place(rows, desk, reference) {
+    if let Some(at) = index.place(Table::Own, desk, reference) {
         rows[at].settle(settled);
     }
 }
@@ -124,21 +171,23 @@ fn settle_own(rows: &mut [Row], desk: u32, reference: &Reference, settled: Settl
 fn try_settle(
     alloc: Global,
     rows: &mut [Row],
+    index: &Index,
     desk: u32,
     reference: &Reference,
     settled: &Settled,
 ) -> Result<(), KeepRefusal>
     requires rows { All IsStorable rows.old }
     requires unique { UniqueKeys rows.old }
+    requires index { IsIndex index.now rows.old }
     ensures told { Settles rows.old rows.new desk reference.now settled.now result }
     ensures asked { SettleAsked desk reference.now result }
     ensures own { result ≢ Err Failed }
 {
-    waits(alloc, rows, desk, reference)?;
+    waits(alloc, rows, index, desk, reference)?;
     let Ok(settled) = settled.copy(alloc) else {
         return Err(KeepRefusal::NoMemory);
     };
-    settle_own(rows, desk, reference, settled);
+    settle_own(rows, index, desk, reference, settled);
     Ok(())
 }
 
@@ -146,6 +195,7 @@ fn try_settle(
 pub(crate) fn settle(
     alloc: Global,
     rows: &mut [Row],
+    index: &Index,
     desk: u32,
     reference: &Reference,
     settled: &Settled,
@@ -153,19 +203,22 @@ pub(crate) fn settle(
     requires rows { All IsStorable rows.old }
     requires settled { IsStorableSettled settled.now }
     requires unique { UniqueKeys rows.old }
+    requires index { IsIndex index.now rows.old }
     ensures told { Settles rows.old rows.new desk reference.now settled.now result }
     ensures asked { SettleAsked desk reference.now result }
     ensures own { result ≢ Err Failed }
     ensures unique { UniqueKeys rows.new }
     ensures storable { All IsStorable rows.new }
+    ensures index { IsIndex index.now rows.new }
 {
-    try_settle(alloc, rows, desk, reference, settled)
+    try_settle(alloc, rows, index, desk, reference, settled)
 }
 
 // The same, but that it fails after its change.
 pub(crate) fn settle_and_fail(
     alloc: Global,
     rows: &mut [Row],
+    index: &Index,
     desk: u32,
     reference: &Reference,
     settled: &Settled,
@@ -173,11 +226,13 @@ pub(crate) fn settle_and_fail(
     requires rows { All IsStorable rows.old }
     requires settled { IsStorableSettled settled.now }
     requires unique { UniqueKeys rows.old }
+    requires index { IsIndex index.now rows.old }
     ensures told { Settles rows.old rows.new desk reference.now settled.now result }
     ensures asked { SettleAsked desk reference.now result }
     ensures planned { SettlesAt (Some AfterChange) rows.old rows.new desk reference.now settled.now result }
     ensures unique { UniqueKeys rows.new }
     ensures storable { All IsStorable rows.new }
+    ensures index { IsIndex index.now rows.new }
 {
-    fail_after(settle(alloc, rows, desk, reference, settled))
+    fail_after(settle(alloc, rows, index, desk, reference, settled))
 }

@@ -9,6 +9,8 @@ ghost use Rattle.keeper.specs.Keeping.{Adds, AddAsked, Settles, SettleAsked, Fin
 use crate::{Row, Rows, Settled, Table};
 use holder_reference::{Holder, Reference};
 use std::alloc::Global;
+use std::error::Error;
+use std::fmt;
 
 /// A desk has at most so many rows in one table.
 pub const MOST_ROWS: u64 = 100_000;
@@ -27,6 +29,20 @@ pub enum KeepRefusal {
     /// Memory is wanting. The rows are as before.
     NoMemory,
 }
+
+impl fmt::Display for KeepRefusal {
+    fn fmt<W: fmt::Write>(&self, f: &mut fmt::Formatter<W>) -> fmt::Result {
+        f.write_str(match self {
+            KeepRefusal::Failed => "the store failed",
+            KeepRefusal::Full => "the desk has as many rows in that table as it may have",
+            KeepRefusal::Twice(_) => "the key is there, or the row has its certificate",
+            KeepRefusal::Absent => "no such row is there",
+            KeepRefusal::NoMemory => "memory is wanting",
+        })
+    }
+}
+
+impl Error for KeepRefusal {}
 
 /// Whatever keeps rows. What is said of rows is said where they are told after the call: then they were told before it
 /// too. So a keeper may stop telling at any call, and none begins to tell again.

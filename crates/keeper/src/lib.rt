@@ -19,6 +19,8 @@
 mod changing;
 mod copies;
 pub mod doubles;
+mod heading;
+mod index;
 mod keeping;
 mod memory;
 mod plan;

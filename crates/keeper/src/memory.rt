@@ -1,4 +1,4 @@
-// A keeper in memory, over a plain list. Its calls fail by a plan.
+// A keeper in memory, over a list and its index. Its calls fail by a plan.
 ghost use Rattle.std.specs.Prelude.{◌≡◌, [], Some};
 ghost use Rattle.std.specs.List.{All};
 ghost use Rattle.eac_base.specs.Telling.{Told};
@@ -7,6 +7,7 @@ ghost use Rattle.keeper.specs.Keeping.{Adds, AddAsked, Settles, SettleAsked, Fin
 ghost use Rattle.keeper.specs.Planned.{next_moment, IsCounted, AddsAt, SettlesAt, ReadsAt};
 
 use crate::changing::{append, append_and_fail, settle, settle_and_fail};
+use crate::index::Index;
 use crate::plan::{begin, count_fault};
 use crate::reading::{copy_at, copy_desk, copy_holder, count_of};
 use crate::{KeepRefusal, Keeper, KeeperPlan, Moment, Row, Rows, Settled, Table};
@@ -18,6 +19,7 @@ use std::marker::Model;
 #[derive(Debug, Drop)]
 pub struct MemoryKeeper {
     rows: Vec<Row>,
+    index: Index,
     plan: KeeperPlan,
     calls: u64,
     faults: u64,
@@ -26,6 +28,7 @@ pub struct MemoryKeeper {
 
 impl Model for MemoryKeeper {
     ghost use Rattle.std.specs.List.{All};
+    ghost use Rattle.keeper.specs.Index.{IsIndex};
     ghost use Rattle.keeper.specs.Planned.{KeeperValue};
     ghost use Rattle.keeper.specs.Rows.{IsStorable};
 
@@ -33,7 +36,7 @@ impl Model for MemoryKeeper {
 
     ghost view = { λ k. record { rows = k.rows.items; plan = k.plan; calls = k.calls; faults = k.faults; unique = k.unique } };
 
-    ghost invariant = { λ k. All IsStorable k.rows.items };
+    ghost invariant = { λ k. All IsStorable k.rows.items × IsIndex k.index k.rows.items };
 }
 
 impl MemoryKeeper {
@@ -46,6 +49,7 @@ impl MemoryKeeper {
     {
         MemoryKeeper {
             rows: Vec::new(alloc),
+            index: Index::new(alloc),
             plan,
             calls: 0,
             faults: 0,
@@ -71,8 +75,8 @@ impl Keeper for MemoryKeeper {
     {
         let result = match begin(&self.plan, &mut self.calls) {
             Some(Moment::Before) => Err(KeepRefusal::Failed),
-            Some(Moment::After) => append_and_fail(alloc, &mut self.rows, row),
-            None => append(alloc, &mut self.rows, row),
+            Some(Moment::After) => append_and_fail(alloc, &mut self.rows, &mut self.index, row),
+            None => append(alloc, &mut self.rows, &mut self.index, row),
         };
         count_fault(&mut self.faults, &result);
         result
@@ -96,9 +100,9 @@ impl Keeper for MemoryKeeper {
         let result = match begin(&self.plan, &mut self.calls) {
             Some(Moment::Before) => Err(KeepRefusal::Failed),
             Some(Moment::After) => {
-                settle_and_fail(alloc, &mut self.rows, desk, reference, settled)
+                settle_and_fail(alloc, &mut self.rows, &self.index, desk, reference, settled)
             }
-            None => settle(alloc, &mut self.rows, desk, reference, settled),
+            None => settle(alloc, &mut self.rows, &self.index, desk, reference, settled),
         };
         count_fault(&mut self.faults, &result);
         result
@@ -120,7 +124,7 @@ impl Keeper for MemoryKeeper {
     {
         let result = match begin(&self.plan, &mut self.calls) {
             Some(_) => Err(KeepRefusal::Failed),
-            None => copy_at(alloc, &self.rows, table, desk, reference),
+            None => copy_at(alloc, &self.rows, &self.index, table, desk, reference),
         };
         count_fault(&mut self.faults, &result);
         result
@@ -136,7 +140,7 @@ impl Keeper for MemoryKeeper {
     {
         let result = match begin(&self.plan, &mut self.calls) {
             Some(_) => Err(KeepRefusal::Failed),
-            None => copy_desk(alloc, &self.rows, table, desk),
+            None => copy_desk(alloc, &self.rows, &self.index, table, desk),
         };
         count_fault(&mut self.faults, &result);
         result
@@ -158,7 +162,7 @@ impl Keeper for MemoryKeeper {
     {
         let result = match begin(&self.plan, &mut self.calls) {
             Some(_) => Err(KeepRefusal::Failed),
-            None => copy_holder(alloc, &self.rows, table, desk, holder),
+            None => copy_holder(alloc, &self.rows, &self.index, table, desk, holder),
         };
         count_fault(&mut self.faults, &result);
         result
@@ -174,7 +178,7 @@ impl Keeper for MemoryKeeper {
     {
         let result = match begin(&self.plan, &mut self.calls) {
             Some(_) => Err(KeepRefusal::Failed),
-            None => Ok(count_of(&self.rows, table, desk) as u64),
+            None => Ok(count_of(&self.rows, &self.index, table, desk) as u64),
         };
         count_fault(&mut self.faults, &result);
         result

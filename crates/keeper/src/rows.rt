@@ -1,6 +1,6 @@
 // Rows as plain data.
 ghost use Rattle.std.specs.Prelude.{◌≡◌};
-ghost use Rattle.keeper.specs.Rows.{table_of, has_key, is_of, is_of_holder, is_settled, with_settled};
+ghost use Rattle.keeper.specs.Rows.{table_of, kind_of, has_key, is_of, is_of_holder, is_settled, with_settled};
 
 use chat_rights::Template;
 use cv_dates::Day;
@@ -84,6 +84,20 @@ pub struct Row {
     pub reference: Reference,
     /// What is kept under that name.
     pub part: Part,
+}
+
+impl Table {
+    /// Its number, by which tables are ordered.
+    pub(crate) fn number(self) -> u8
+        ensures { result ≡ kind_of self }
+    {
+        match self {
+            Table::Register => 0,
+            Table::Issued => 1,
+            Table::Own => 2,
+            Table::Ca => 3,
+        }
+    }
 }
 
 impl Part {

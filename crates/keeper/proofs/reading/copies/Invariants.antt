@@ -1,9 +1,8 @@
 use Rattle.std.proofs.Common.{◌≡◌, take}
-use Rattle.std.specs.Prelude.{filter}
-use Rattle.std.specs.Option.{option_copied}
-use Rattle.keeper.specs.Steps.{is_wanted}
+use Rattle.std.specs.Prelude.{slice_get}
+use Rattle.std.specs.List.{filter_map}
 use Rattle.keeper.proofs.reading.copies.Given as goal
 
--- the wanted rows so far
-abbrev pub invariant-loop-row : goal.invariant-loop-row
-invariant-loop-row l = l.found ≡ filter (is_wanted l.table l.desk (option_copied l.holder)) (take l.row-index l.rows)
+-- the rows at the places so far
+abbrev pub invariant-loop-place : goal.invariant-loop-place
+invariant-loop-place l = l.found ≡ filter_map (slice_get l.rows) (take l.place-index l.places)
