@@ -2,12 +2,12 @@
 ghost use Rattle.std.specs.Prelude.{◌≡◌, ◌≤◌, ◌<◌, ◌+◌, ◌++◌, length, IfSome, IsTrue};
 ghost use Rattle.eac_base.specs.Bytes.{big_endian};
 ghost use Rattle.chip_verify.specs.Trust.{IsPoint, ComesBefore};
-ghost use Rattle.chat_rights.specs.Template.{role_number, template_byte};
+ghost use Rattle.chat_rights.specs.Template.{template_byte};
 ghost use Rattle.chip_slots.specs.Slot as words;
 
 use crate::layout::FORM;
 use arrayvec::ArrayVec;
-use chat_rights::{Role, Template};
+use chat_rights::Template;
 use chip_verify::laws::states_are_legal;
 use chip_verify::{ChipKey, ChipState, TrustPoint};
 
@@ -53,23 +53,11 @@ fn put_key(text: &mut RecordBytes, key: &ChipKey)
     put(text, view.point);
 }
 
-fn role_number(role: Role) -> u8
-    ensures number { result ≡ role_number role }
-    ensures small { result < 4 }
-{
-    match role {
-        Role::Terminal => 0,
-        Role::Foreign => 1,
-        Role::Domestic => 2,
-        Role::Cvca => 3,
-    }
-}
-
 fn template_byte(template: Template) -> u8
     ensures byte { result ≡ template_byte template }
     ensures rights { template.rights < 64 }
 {
-    64 * role_number(template.role) + template.rights.bits() as u8
+    64 * template.role.number() + template.rights.bits() as u8
 }
 
 fn put_point(text: &mut RecordBytes, point: &TrustPoint)
