@@ -75,7 +75,7 @@ pub record MakesKey (held holds : Holds) (form : KeyForm) (key : Key) : Type 0 w
 
 -- This message was signed with this key: the signature is good, and the pair stands at the end of what was signed.
 pub record Signs (says : Says) (was_signed signed : Signed) (key : PublicKey) (message signature : List ℕ)
-  : Type 0 where
+    : Type 0 where
   pub size : IsTrue (is_within 1 512 (length signature))
   pub good : IsTrue (says key message signature)
   pub told : signed ≡ option_map (λ pairs. pairs ++ (key, message) ∷ []) was_signed
