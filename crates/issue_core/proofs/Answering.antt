@@ -11,7 +11,7 @@ use Rattle.cvc_grammar.specs.declared.refusal.ReadCvc.{ReadCvc}
 use Rattle.cvc_grammar.specs.declared.refusal.ReadCvc.TheVariants as read
 use Rattle.cvc_grammar.specs.RequestOrder.{read_request}
 use Rattle.cvc_grammar.specs.Views.{refused_cvc}
-use Rattle.policy_limits.specs.Roster.{registration}
+use Rattle.policy_limits.specs.Setup.{registration}
 use Rattle.policy_limits.specs.Validity.{validity, minimum_days}
 use Rattle.policy_limits.specs.declared.registration.Registration.{Registration}
 use Rattle.keeper.specs.declared.rows.Row.{Row}
@@ -19,8 +19,8 @@ use Rattle.keeper.specs.declared.rows.Part.{Part}
 use Rattle.keeper.specs.declared.rows.Part.TheVariants as part
 use Rattle.keeper.specs.declared.rows.Table.{Table}
 use Rattle.keeper.specs.declared.rows.Table.TheVariants as table
-use Rattle.keeper.specs.declared.traits.KeepRefusal.{KeepRefusal}
-use Rattle.keeper.specs.declared.traits.KeepRefusal.TheVariants as refusal
+use Rattle.keeper.specs.declared.keeping.KeepRefusal.{KeepRefusal}
+use Rattle.keeper.specs.declared.keeping.KeepRefusal.TheVariants as refusal
 use Rattle.keeper.specs.Rows.{table_of, most_rows}
 use Rattle.keeper.specs.Keeping.{IsAsked, AddAsked}
 use Rattle.issue_core.specs.declared.rule.Rule.{Rule}
@@ -42,7 +42,7 @@ use Rattle.issue_core.proofs.Messages.{reads}
 -- ---- which rules a step answers
 
 -- one of the rules 4 to 12
-abbrev IsOfRows : Rule → Type 0
+abbrev pub IsOfRows : Rule → Type 0
 IsOfRows (rule.Syntax e) = ⊥
 IsOfRows rule.Used = ⊥
 IsOfRows rule.Holder = ⊥
@@ -51,7 +51,7 @@ IsOfRows rule.Outer = ⊥
 IsOfRows k = Unit {0}
 
 -- one of the rules 13 and 14
-abbrev IsOfVerdicts : Rule → Type 0
+abbrev pub IsOfVerdicts : Rule → Type 0
 IsOfVerdicts rule.Inner = Unit {0}
 IsOfVerdicts rule.Outer = Unit {0}
 IsOfVerdicts k = ⊥
@@ -66,7 +66,7 @@ in_order_among a e d m u x l s f =
     (or_next IsOfRows m rule.OuterMissing _ tt (or_next IsOfRows u rule.OuterUnknown _ tt (or_next IsOfRows x rule.OuterExpired _ tt
     (or_next IsOfRows l rule.LiveLimit _ tt (or_next IsOfRows s rule.Short _ tt (or_next IsOfRows f rule.Full None tt tt))))))))
 
-first_is_of_rows : (day : ℕ) (r : Request) (g : Registration) (seen : Seen) → IfSome (first_seen day r g seen) IsOfRows
+pub first_is_of_rows : (day : ℕ) (r : Request) (g : Registration) (seen : Seen) → IfSome (first_seen day r g seen) IsOfRows
 first_is_of_rows day r g seen = in_order_among (is_none seen.signing) (is_expired_at day seen.signing) (has_other_domain r seen.signing)
     (is_outer_missing g.first r.outer seen.held) (is_outer_unknown r.outer seen.vouching) (is_outer_expired day seen.vouching)
     (nat_le g.live_limit seen.live) (is_short day g seen.signing) (nat_le most_rows seen.count)
@@ -84,10 +84,10 @@ if_inner : (b : Bool) (o : Option Rule) → IfSome o IsOfVerdicts → IfSome (co
 if_inner true o h = h
 if_inner false o h = tt
 
-verdict_is_of_verdicts : (said : Says) (r : Request) (v : Option Voucher) → IfSome (verdict_rule said r v) IsOfVerdicts
+pub verdict_is_of_verdicts : (said : Says) (r : Request) (v : Option Voucher) → IfSome (verdict_rule said r v) IsOfVerdicts
 verdict_is_of_verdicts said r v = if_inner (inner_says said r) (outer_rule said r r.outer v) (outer_is_of_verdicts said r r.outer v)
 
-given : (P : Rule → Type 0) (o : Option Rule) (k : Rule) → o ≡ Some k → IfSome o P → P k
+pub given : (P : Rule → Type 0) (o : Option Rule) (k : Rule) → o ≡ Some k → IfSome o P → P k
 given P o k is h = subst (λ (x : Option Rule). IfSome x P) is h
 
 module _ (said says : Says) (holds : Holds) (c : Case) where
@@ -204,16 +204,17 @@ module _ (says : Says) (holds : Holds) (call : Call) (r : Request) (g : Registra
       says_added said says holds c r g s days may made row a m ((λ i. (is i).desk) ∙ sym its.desk) (λ i. (is i).reference) (λ i. table_of (is i).part) (subst (λ (x : List ℕ). AddingSays row made.text x a) (sym its.bytes) h)
   answered_entered kept made row (Err f) m is h said c its may = tt
 
-  -- ---- the row that signs and the dates
+-- ---- the row that signs and the dates
 
-  pub answered_due : (signing : Option Signer) (v : Option (ℕ × ℕ)) (result : Result Answer IssueFault) → signing ≡ Some s → v ≡ validity call.day g.days s.settled.until (minimum_days g.role) → v ≡ Some days → WhereMade result →
-      (said : Says) → (c : Case) → (seen : Seen) → IsCaseOf c call → seen.signing ≡ signing → IsCleared said c r g seen → Answered said says holds c result
-  answered_due signing v result is dates some f said c seen its same h = f said c its (record {
+module _ (call : Call) (r : Request) (g : Registration) (s : Signer) (days : ℕ × ℕ) where
+  pub may_make : (signing : Option Signer) (v : Option (ℕ × ℕ)) → signing ≡ Some s → v ≡ validity call.day g.days s.settled.until (minimum_days g.role) → v ≡ Some days →
+      (said : Says) → (c : Case) → (seen : Seen) → IsCaseOf c call → seen.signing ≡ signing → IsCleared said c r g seen → MayMake said c r g s days
+  may_make signing v is dates some said c seen its same h = record {
     seen = seen;
     cleared = h;
     signing = same ∙ is;
     dates = (λ i. validity (its.day i) g.days s.settled.until (minimum_days g.role)) ∙ sym dates ∙ some;
-  })
+  }
 
 module _ (c : Case) (r : Request) (g : Registration) (seen : Seen) (clear : first_seen c.day r g seen ≡ None) where
   unbroken : NoneBroken (is_none seen.signing) (is_short c.day g seen.signing) (nat_le most_rows seen.count)
@@ -239,25 +240,17 @@ module _ (said says : Says) (holds : Holds) (call : Call) (r : Request) (g : Reg
   pub answered_verdict : (k : Rule) → Some k ≡ verdict_rule said r seen.vouching → WhereSeen (Ok (answer.Refused k))
   answered_verdict k is c its saw clear = says_verdict said says holds c r g seen k saw (clear_on c None its clear) (sym is)
 
-  pub answered_agreed : (later : Holds) (result : Result Answer IssueFault) → later ≡ holds → None ≡ verdict_rule said r seen.vouching →
-      ((x : Says) → (c : Case) → (t : Seen) → IsCaseOf c call → t.signing ≡ seen.signing → IsCleared x c r g t → Answered x says later c result) → WhereSeen result
-  answered_agreed later result same is f c its saw clear = subst (λ (x : Holds). Answered said says x c result) same (f said c seen its refl (record { saw = saw; unbroken = clear_on c None its clear; agreed = sym is }))
-
 -- ---- the looks
 
 module _ (said says : Says) (holds : Holds) (call : Call) (r : Request) (g : Registration) where
   abbrev WhereAdmitted : Result Answer IssueFault → Type 0
   WhereAdmitted result = (c : Case) → IsCaseOf c call → IsAdmitted c r g → Answered said says holds c result
 
-  has_seen : (c : Case) (seen : Seen) → IsCaseOf c call → IsAdmitted c r g → IsSeenAsked call.desk call.day r g seen → HasSeen c r g seen
+  pub has_seen : (c : Case) (seen : Seen) → IsCaseOf c call → IsAdmitted c r g → IsSeenAsked call.desk call.day r g seen → HasSeen c r g seen
   has_seen c seen its admitted asked = record { admitted = admitted; asked = subst (λ (x : ℕ × ℕ). IsSeenAsked x.0 x.1 r g seen) (λ i. (sym its.desk i, sym its.day i)) asked }
 
   pub answered_seen : (seen : Seen) (k : Rule) (first : Option Rule) → IsSeenAsked call.desk call.day r g seen → first ≡ first_seen call.day r g seen → first ≡ Some k → WhereAdmitted (Ok (answer.Refused k))
   answered_seen seen k first asked is some c its admitted = says_seen said says holds c r g seen k (has_seen c seen its admitted asked) ((λ i. first_seen (its.day i) r g seen) ∙ sym is ∙ some)
-
-  pub answered_unbroken : (seen : Seen) (first : Option Rule) (result : Result Answer IssueFault) → IsSeenAsked call.desk call.day r g seen → first ≡ first_seen call.day r g seen → first ≡ None →
-      ((c : Case) → IsCaseOf c call → HasSeen c r g seen → first_seen call.day r g seen ≡ None → Answered said says holds c result) → WhereAdmitted result
-  answered_unbroken seen first result asked is none f c its admitted = f c its (has_seen c seen its admitted asked) (sym is ∙ none)
 
 -- ---- the registration, and the row of the number
 
@@ -277,8 +270,8 @@ module _ (said says : Says) (holds : Holds) (call : Call) (r : Request) where
   pub answered_suspended : (g : Registration) (holder : List ℕ) → holder ≡ holder_part r.body.holder → Some g ≡ registration call.setup.now call.desk holder → g.suspended ≡ true → WhereAsked (Ok (answer.Refused rule.Holder))
   answered_suspended g holder h is out c its read = record { request = r; read = read_on c its read; unregistered = ap not_registered (found_is c holder (Some g) its h is) ∙ out }
 
-  pub answered_registered : (g : Registration) (holder : List ℕ) (result : Result Answer IssueFault) → holder ≡ holder_part r.body.holder → Some g ≡ registration call.setup.now call.desk holder → g.suspended ≡ false → WhereAdmitted said says holds call r g result → WhereAsked result
-  answered_registered g holder result h is active f c its read = f c its (record { read = read_on c its read; found = found_is c holder (Some g) its h is; active = active })
+  pub admitted_by : (g : Registration) (holder : List ℕ) → holder ≡ holder_part r.body.holder → Some g ≡ registration call.setup.now call.desk holder → g.suspended ≡ false → (c : Case) → IsCaseOf c call → request_of call.bytes.now ≡ Ok r → IsAdmitted c r g
+  admitted_by g holder h is active c its read = record { read = read_on c its read; found = found_is c holder (Some g) its h is; active = active }
 
   pub answered_again : (found : Option Row) (row : Row) (a : Answer) → found ≡ Some row → a ≡ kept_answer row.part call.bytes.now → IfSome found (IsAsked table.Issued call.desk r.body.holder) → WhereAsked (Ok a)
   answered_again found row a some is asked c its read =

@@ -12,9 +12,8 @@ use Rattle.keeper.specs.declared.rows.Part.TheVariants as part
 use Rattle.keeper.specs.declared.rows.Table.TheVariants as table
 use Rattle.keeper.specs.Rows.{is_of, rows_of}
 use Rattle.issue_core.specs.declared.rule.Rule.{Rule}
-use Rattle.issue_core.specs.Ledger.{Desk, Outcome, Issued, Kept, Refused, Faulted, NoMemory, Delivery, Entry, entries, entry_of, left_entry, faces, kept_for, is_open}
-use Rattle.issue_core.specs.Story.{Adds, Tells, Decides, answer_due}
-use Rattle.issue_core.specs.Struck.{bare}
+use Rattle.ledger.specs.Ledger.{Outcome, Issued, Kept, Refused, Faulted, NoMemory, entries, entry_of, left_entry, is_open}
+use Rattle.ledger.specs.Story.{Adds, Tells, Decides}
 use Rattle.issue_core.specs.Asked.{request_of, cert_of, body_in, body_of, cert_message}
 use Rattle.issue_core.specs.Rules.{Case, Signer, signer}
 use Rattle.issue_core.specs.Due.{due, due_of}
@@ -22,7 +21,7 @@ use Rattle.issue_core.specs.Issuing.{issuing, is_signed, signed_in, signed_as, F
 use Rattle.issue_core.specs.IssueRows.{entry_in, entries_in, entries_at, row_for, left_row, settled_of}
 use Rattle.issue_core.specs.Issues.{delivery, is_held}
 use Rattle.issue_core.specs.IssueLaws.{CallsGoOn, KeysAreNeeded}
-use Rattle.issue_core.proofs.StoryLaws.{story_more, story_later, entries_more}
+use Rattle.ledger.proofs.StoryLaws.{story_more, story_later, entries_more}
 
 -- ---- the entries of more rows
 
@@ -103,22 +102,3 @@ keys_are_needed says holds c o k p before after served new allowed missing = go 
     go (Refused q) told = absurd (cc (allowed, told.1))
     go (Faulted f) told = refl
     go NoMemory told = refl
-
--- ---- answers
-
-module _ {Case' Query Face Product Reason Fault' : Type 0} (D : Desk Case' Query Face Product Reason Fault') (signed : Case' → Product → Bool) (earlier : List (Entry Query Product)) (d : Delivery Case' Product Reason Fault') (now : Decides D signed earlier d) where
-  added : (p : Product) → d.left ≡ Some p → Adds D signed earlier d p
-  added p is = subst (λ (o : Option Product). IfSome o (Adds D signed earlier d)) is now.left
-
-  abbrev kept : Option Product
-  kept = kept_for D earlier (D.query d.case_of)
-
-  abbrev rule : Option Reason
-  rule = D.first (faces D earlier) d.case_of
-
-  pub due_face : (outcome : Outcome Product Reason Fault') → d.outcome ≡ outcome → is_open d.outcome ≡ false → Tells D earlier d outcome → bare D d.outcome ≡ answer_due (option_map D.face kept) rule (D.due d.case_of)
-  due_face (Issued p) is answered told = let a = added p told in ap (bare D) is ∙ sym (λ i. answer_due (option_map D.face (a.new i)) (a.allowed i) (a.body i))
-  due_face (Kept p) is answered told = ap (bare D) is ∙ sym (ap (λ (o : Option Product). answer_due (option_map D.face o) rule (D.due d.case_of)) told)
-  due_face (Refused k) is answered told = ap (bare D) is ∙ sym (λ i. answer_due (option_map D.face (told.0 i)) (told.1 i) (D.due d.case_of))
-  due_face (Faulted f) is answered told = absurd (cc (ap is_open is, answered))
-  due_face NoMemory is answered told = absurd (cc (ap is_open is, answered))

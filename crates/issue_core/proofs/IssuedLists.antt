@@ -19,7 +19,7 @@ use Rattle.keeper.specs.declared.rows.Table.{Table}
 use Rattle.keeper.specs.declared.rows.Table.TheVariants as table
 use Rattle.keeper.specs.Rows.{table_of, kind_of, same_table, is_of, is_of_holder, row_at, rows_of, kept_row, UniqueKeys}
 use Rattle.keeper.proofs.UniqueRows.{unique_parts, and_parts}
-use Rattle.issue_core.specs.Ledger.{faces, kept_for}
+use Rattle.ledger.specs.Ledger.{faces, kept_for}
 use Rattle.issue_core.specs.Asked.{request_of, number_in, number_of, body_in, body_of}
 use Rattle.issue_core.specs.Rules.{Issue, Voucher, has_same_holder, has_expired, issued_voucher, first_issued}
 use Rattle.issue_core.specs.Issuing.{issuing}

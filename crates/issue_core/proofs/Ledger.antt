@@ -13,7 +13,7 @@ use Rattle.eac_base.proofs.EqualBytes.{bytes_eq-true, bytes_eq-self}
 use Rattle.keeper.proofs.UniqueRows.{unique_parts}
 use Rattle.keeper.proofs.SettledRows.{same_key}
 use Rattle.issue_core.specs.declared.rule.Rule.TheVariants.{Used, Full}
-use Rattle.issue_core.specs.Ledger.{Entry, faces, kept_for, IsUnused}
+use Rattle.ledger.specs.Ledger.{Entry, faces, kept_for, IsUnused}
 use Rattle.issue_core.specs.Register.{Request, Asked, Entries, register, is_used, first_rule, entries_of, entry_of_row, bytes_of, day_of}
 
 -- no entry has this reference

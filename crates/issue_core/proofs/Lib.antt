@@ -1,10 +1,7 @@
-pub mod StoryLaws
-pub mod StruckLaws
 pub mod Ledger
 pub mod Serves
 pub mod Registering
 pub mod RowLaws
-pub mod DueAnswers
 pub mod Sizes
 pub mod Messages
 pub mod Makings
@@ -16,5 +13,7 @@ pub mod LookedBy
 pub mod IssuedLists
 pub mod ListsOwe
 pub mod IssueStories
+pub mod Quiet
 pub mod Caused
 pub mod Answering
+pub mod Owing

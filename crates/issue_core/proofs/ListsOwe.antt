@@ -10,7 +10,7 @@ use Rattle.signature_provider.specs.Provider.{Says}
 use Rattle.signature_provider.specs.declared.key.Key.{Key}
 use Rattle.cvc_grammar.specs.declared.request.Request.{Request}
 use Rattle.cvc_grammar.specs.declared.request.Outer.{Outer}
-use Rattle.policy_limits.specs.Roster.{Roster}
+use Rattle.policy_limits.specs.Setup.{SetupValue}
 use Rattle.policy_limits.specs.declared.registration.Registration.{Registration}
 use Rattle.keeper.specs.declared.rows.Row.{Row}
 use Rattle.keeper.specs.declared.rows.Part.{Part}
@@ -22,7 +22,7 @@ use Rattle.issue_core.specs.declared.rule.Rule.{Rule}
 use Rattle.issue_core.specs.declared.rule.Rule.TheVariants as rule
 use Rattle.issue_core.specs.declared.deciding.Seen.{Seen}
 use Rattle.issue_core.specs.declared.issuing.Answer.TheVariants as answer
-use Rattle.issue_core.specs.Ledger.{faces}
+use Rattle.ledger.specs.Ledger.{faces}
 use Rattle.issue_core.specs.Asked.{request_of, number_in}
 use Rattle.issue_core.specs.Rules.{Case, Issue, Signer, signer_of, settled_as, signers, named, Voucher, ca_voucher, first_ca, or_else, is_home, first_of, rules, is_broken}
 use Rattle.issue_core.specs.Issuing.{issuing}
@@ -100,7 +100,7 @@ first_two a b x h k = λ i. cond (h i) (Some rule.Used) (cond (k i) (Some rule.H
 
 -- ---- what is owed
 
-module _ (said : Says) (setup : Roster) (desk day : ℕ) (bytes : List ℕ) (rows : List Row) (unique : UniqueKeys rows) (readable : AreReadable rows) where
+module _ (said : Says) (setup : SetupValue) (desk day : ℕ) (bytes : List ℕ) (rows : List Row) (unique : UniqueKeys rows) (readable : AreReadable rows) where
   abbrev c : Case
   c = case_of said setup desk day bytes rows
 

@@ -8,7 +8,7 @@ use Rattle.keeper.specs.Rows.{rows_of, most_rows}
 use Rattle.issue_core.specs.declared.rule.Rule.{Rule}
 use Rattle.issue_core.specs.declared.rule.Rule.TheVariants as rule
 use Rattle.issue_core.specs.declared.deciding.Seen.{Seen}
-use Rattle.issue_core.specs.Ledger.{faces}
+use Rattle.ledger.specs.Ledger.{faces}
 use Rattle.issue_core.specs.Rules.{signer, first_rule}
 use Rattle.issue_core.specs.Due.{due_of, due_for, due_body}
 use Rattle.issue_core.specs.Issuing.{issuing}

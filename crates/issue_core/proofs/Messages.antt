@@ -1,9 +1,9 @@
 -- What is signed, word by word.
-use Rattle.std.proofs.Common.{◌≡◌, ℕ, Bool, true, List, [], ◌++◌, refl, sym, ap, ◌∙◌}
+use Rattle.std.proofs.Common.{◌≡◌, ℕ, Bool, true, List, [], ◌∷◌, ◌++◌, refl, sym, ap, ◌∙◌, subst}
 use Rattle.std.specs.Prelude.{Ok, IsTrue}
 use Rattle.std.proofs.lemmas.List.{append-nil}
 use Rattle.tlv_core.specs.Object.{object}
-use Rattle.signature_provider.specs.Provider.{PublicKey, Says, Holds, public_key}
+use Rattle.signature_provider.specs.Provider.{PublicKey, Says, Holds, Signed, public_key}
 use Rattle.cvc_grammar.specs.declared.request.Request.{Request}
 use Rattle.cvc_grammar.specs.declared.request.Outer.{Outer}
 use Rattle.cvc_grammar.specs.declared.certificate.CertBody.{CertBody}
@@ -17,6 +17,7 @@ use Rattle.issue_core.specs.Asked.{request_of, cert_of, inner_message, outer_mes
 use Rattle.issue_core.specs.Rules.{Signer, Voucher}
 use Rattle.issue_core.specs.SeenRules.{inner_says, outer_says}
 use Rattle.issue_core.specs.Issues.{IsSigned}
+use Rattle.issue_core.specs.Signed.{Pair, SignsMore}
 
 pub reads : (bytes : List ℕ) → read_request bytes ≡ request_of bytes
 unfolding request_of
@@ -50,6 +51,10 @@ signed_is says held s body key message signature size good is_held k m = record 
   good = (λ i. says (sym k i) (sym (m ∙ body_is body) i) signature) ∙ good;
   is_held = ap held (sym k) ∙ is_held;
 }
+
+-- the pair that was signed
+pub signed_once : (signed : Signed × Signed) (s : Signer) (body : CertBody) (key : PublicKey) (message : List ℕ) → SignsMore signed ((key, message) ∷ []) → key ≡ public_key s.key → message ≡ body_text body → SignsMore signed ((public_key s.key, cert_message body) ∷ [])
+signed_once signed s body key message more k m = subst (λ (p : Pair). SignsMore signed (p ∷ [])) (λ i. (k i, (m ∙ body_is body) i)) more
 
 -- what was written is read
 pub read_again : (c : Cert) (bytes : List ℕ) → IsCert c bytes → cert_of bytes ≡ Ok c

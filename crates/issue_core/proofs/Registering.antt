@@ -6,8 +6,8 @@ use Rattle.keeper.specs.declared.rows.Row.{Row}
 use Rattle.keeper.specs.declared.rows.Part.{Part}
 use Rattle.keeper.specs.declared.rows.Part.TheVariants as part
 use Rattle.keeper.specs.declared.rows.Table.TheVariants.{Register as RegisterTable}
-use Rattle.keeper.specs.declared.traits.KeepRefusal.{KeepRefusal}
-use Rattle.keeper.specs.declared.traits.KeepRefusal.TheVariants as refusal
+use Rattle.keeper.specs.declared.keeping.KeepRefusal.{KeepRefusal}
+use Rattle.keeper.specs.declared.keeping.KeepRefusal.TheVariants as refusal
 use Rattle.keeper.specs.Rows.{most_rows}
 use Rattle.keeper.specs.Keeping.{IsAsked, AddAsked}
 use Rattle.issue_core.specs.declared.rule.Rule.TheVariants.{Used, Full}

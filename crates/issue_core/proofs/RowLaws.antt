@@ -6,10 +6,10 @@ use Rattle.keeper.specs.declared.rows.Row.{Row}
 use Rattle.keeper.specs.declared.rows.Table.TheVariants.{Register as RegisterTable}
 use Rattle.keeper.specs.Rows.{is_of}
 use Rattle.issue_core.specs.declared.rule.Rule.{Rule}
-use Rattle.issue_core.specs.Ledger.{Entry, Outcome, NoMemory, Delivery, left_entry, entries}
-use Rattle.issue_core.specs.Story.{Adds, Decides}
+use Rattle.ledger.specs.Ledger.{Entry, Outcome, NoMemory, Delivery, left_entry, entries}
+use Rattle.ledger.specs.Story.{Adds, Decides}
 use Rattle.issue_core.specs.Register.{Request, Asked, Fault, Entries, Deliveries, register, unsigned, RegisterStory, delivery_of, Serves, entries_of, entry_of_row, row_of, rows_left, rows_added, rows_of_ledger}
-use Rattle.issue_core.proofs.StoryLaws.{story_append}
+use Rattle.ledger.proofs.StoryLaws.{story_append}
 
 push_in : (b : Bool) (e : Entry Request (List ℕ)) (xs ys : Entries) → cond b (e ∷ xs ++ ys) (xs ++ ys) ≡ cond b (e ∷ xs) xs ++ ys
 push_in true e xs ys = refl

@@ -14,16 +14,16 @@ use Rattle.eac_base.proofs.Tellings.{told_then, told_more}
 use Rattle.keeper.specs.declared.rows.Part.TheVariants as part
 use Rattle.keeper.specs.Rows.{table_of, same_table, has_key, row_at, rows_of, most_rows, UniqueKeys}
 use Rattle.keeper.specs.Keeping.{MayAdd, Adds as KeeperAdds}
-use Rattle.keeper.specs.declared.traits.KeepRefusal.{KeepRefusal}
-use Rattle.keeper.specs.declared.traits.KeepRefusal.TheVariants.{Failed, Full as KeeperFull, Twice, Absent, NoMemory as KeeperNoMemory}
+use Rattle.keeper.specs.declared.keeping.KeepRefusal.{KeepRefusal}
+use Rattle.keeper.specs.declared.keeping.KeepRefusal.TheVariants.{Failed, Full as KeeperFull, Twice, Absent, NoMemory as KeeperNoMemory}
 use Rattle.issue_core.specs.declared.rule.Rule.{Rule}
 use Rattle.issue_core.specs.declared.rule.Rule.TheVariants.{Used, Full}
 use Rattle.issue_core.specs.declared.serving.RegisterAnswer.{RegisterAnswer}
 use Rattle.issue_core.specs.declared.serving.RegisterAnswer.TheVariants.{Issued, Kept, Refused}
 use Rattle.issue_core.specs.declared.serving.IssueFault.{IssueFault}
 use Rattle.issue_core.specs.declared.serving.IssueFault.TheVariants.{KeeperFault, ProviderFault, NoKey, NoMemory}
-use Rattle.issue_core.specs.Ledger.{Outcome, Issued as IssuedOutcome, Faulted, MayLeave, faces}
-use Rattle.issue_core.specs.Story.{Adds}
+use Rattle.ledger.specs.Ledger.{Outcome, Issued as IssuedOutcome, Faulted, MayLeave, faces}
+use Rattle.ledger.specs.Story.{Adds}
 use Rattle.issue_core.specs.Register.{Asked, Fault, KeeperFailed, register, unsigned, delivery_of, Serves, entries_of, bytes_of, day_of, again_of, outcome_of, row_of}
 use Rattle.issue_core.specs.Steps.{full_answer, row_answer, first_answer, looked, Enters, answer_of}
 use Rattle.issue_core.proofs.Ledger.{Seen, lacks_both, unused, none_lacks, face_count, seen, used_rule, full_rule, no_rule, unique_ledger}

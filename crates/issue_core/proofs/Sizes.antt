@@ -6,7 +6,8 @@ use Rattle.std.proofs.lemmas.Bool.{le-leb, leb-true, ltb-true}
 use Rattle.eac_base.specs.Bytes.{is_empty, is_within}
 use Rattle.tlv_core.specs.Object.{object, tag_bytes, length_bytes}
 use Rattle.cv_dates.specs.Calendar.{date_of}
-use Rattle.chat_rights.specs.Template.{template_text, template_byte, identifier_of}
+use Rattle.chat_rights.specs.Template.{template_text, template_byte}
+use Rattle.chat_rights.specs.Kinds.{identifier_of}
 use Rattle.chat_rights.specs.declared.Kind.{Kind}
 use Rattle.chat_rights.specs.declared.Kind.TheVariants.{Inspection}
 use Rattle.holder_reference.specs.Reference.{is_reference, is_holder, is_sequence, holder_part, sequence_part}

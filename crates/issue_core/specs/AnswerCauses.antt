@@ -26,9 +26,9 @@ use Rattle.issue_core.specs.declared.deciding.Seen.{Seen}
 use Rattle.issue_core.specs.declared.issuing.Answer.{Answer}
 use Rattle.issue_core.specs.declared.issuing.Answer.TheVariants as answer
 
--- ---- what a keeper gave
+-- ---- rows as they were asked for. There are such rows: that this keeper gave them isn't said, but where its rows are told.
 
--- a row under the request's number, found or answered to the adding, that is answered so
+-- some row under the request's number, as a look or an adding may give it, is answered so
 pub record RowAnswers (c : Case) (a : Answer) : Type 0 where
   pub request : Request
   pub read : request_of c.bytes ≡ Ok request
@@ -69,7 +69,7 @@ pub record HeldAs (desk day : ℕ) (holder : List ℕ) (counts : ℕ × ℕ) : T
   pub rows_asked : All (IsHolderRow table.Issued desk holder) rows
   pub counted : HolderSeen day rows counts
 
--- what was seen of the rows is as was asked for
+-- this may be seen of rows that are as was asked for
 pub record IsSeenAsked (desk day : ℕ) (r : Request) (g : Registration) (seen : Seen) : Type 0 where
   pub signs : SignsAs desk r.body.authority seen.signing
   pub vouches : OuterVouchesAs desk g.first (holder_part r.body.holder) r.outer seen.vouching
@@ -83,7 +83,7 @@ pub record IsAdmitted (c : Case) (r : Request) (g : Registration) : Type 0 where
   pub found : registered c r ≡ Some g
   pub active : g.suspended ≡ false
 
--- this was seen of the rows
+-- the request is of a registered holder, and this may be seen of the rows for it
 pub record HasSeen (c : Case) (r : Request) (g : Registration) (seen : Seen) : Type 0 where
   pub admitted : IsAdmitted c r g
   pub asked : IsSeenAsked c.desk c.day r g seen
@@ -125,7 +125,7 @@ pub record VerdictBreaks (said : Says) (c : Case) (k : Rule) : Type 0 where
   pub unbroken : first_seen c.day request registration seen ≡ None
   pub first : verdict_rule said request seen.vouching ≡ Some k
 
--- no rule is broken, and the keeper answers to the adding that there is no room
+-- no rule is broken, so that only the keeper's word to the adding can say that there is no room
 pub record AddingBreaks (said : Says) (c : Case) : Type 0 where
   pub request : Request
   pub registration : Registration
@@ -174,7 +174,7 @@ Answered said says holds c result = IfOk result (AnswerCause said says holds c)
 
 -- ---- the adding
 
--- a row under this row's key is answered so
+-- some row under this row's key is answered so
 pub record StandsAs (row : Row) (bytes : List ℕ) (a : Answer) : Type 0 where
   pub kept : Row
   pub asked : IsAsked (table_of row.part) row.desk row.reference kept

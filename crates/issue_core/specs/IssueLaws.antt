@@ -1,22 +1,20 @@
--- Laws of an issuing desk's stories (this project's own).
-use Rattle.std.specs.Prelude.{◌≡◌, ℕ, List, [], ◌∷◌, ◌++◌, Some, None, true, false, option_map}
+-- Laws of an issuing desk's rows and calls (this project's own). Those of its stories are each desk's.
+use Rattle.std.specs.Prelude.{◌≡◌, ℕ, List, [], ◌∷◌, ◌++◌, None, true, false}
 use Rattle.signature_provider.specs.Provider.{Says, Holds, SaysMore}
-use Rattle.policy_limits.specs.Roster.{Roster}
+use Rattle.policy_limits.specs.Setup.{SetupValue}
 use Rattle.keeper.specs.declared.rows.Row.{Row}
 use Rattle.keeper.specs.Rows.{UniqueKeys}
 use Rattle.issue_core.specs.declared.rule.Rule.{Rule}
-use Rattle.issue_core.specs.Ledger.{Outcome, Kept, entries, faces, kept_for, is_open}
-use Rattle.issue_core.specs.Story.{Decides, NoTwo, answer_due}
-use Rattle.issue_core.specs.Struck.{struck, AreAlike, AgreeIn, InPlaces, bare}
+use Rattle.ledger.specs.Ledger.{Outcome, entries, faces, kept_for, is_open}
 use Rattle.issue_core.specs.Rules.{Case, first_rule}
-use Rattle.issue_core.specs.Issuing.{issuing, is_signed, Fault, IssueEntries, IssueDelivery, IssuingStory}
+use Rattle.issue_core.specs.Issuing.{issuing, Fault, IssueDelivery, IssuingStory}
 use Rattle.issue_core.specs.IssueRows.{entries_at, AreReadable}
 use Rattle.issue_core.specs.Issues.{case_of, is_held, delivery, Serves}
 use Rattle.issue_core.specs.IssueSteps.{ByLists}
 
 -- what readable rows with unique keys say of a request
 abbrev pub ListsOwe : Type 0
-ListsOwe = (said : Says) (setup : Roster) (desk day : ℕ) (bytes : List ℕ) (rows : List Row) → UniqueKeys rows → AreReadable rows → ByLists said (case_of said setup desk day bytes rows) rows
+ListsOwe = (said : Says) (setup : SetupValue) (desk day : ℕ) (bytes : List ℕ) (rows : List Row) → UniqueKeys rows → AreReadable rows → ByLists said (case_of said setup desk day bytes rows) rows
 
 -- ---- one call after a story
 
@@ -31,27 +29,3 @@ CallsGoOn = (said says : Says) (holds : Holds) (c : Case) (o : Outcome (List ℕ
 abbrev pub KeysAreNeeded : Type 0
 KeysAreNeeded = (says : Says) (holds : Holds) (c : Case) (o : Outcome (List ℕ) Rule Fault) (k p : ℕ × ℕ) (before after : List Row) → Serves says holds c o k p before after →
     kept_for issuing (entries_at c.desk before) c.bytes ≡ None → first_rule (faces issuing (entries_at c.desk before)) c ≡ None → is_held holds c ≡ false → is_open o ≡ true
-
--- ---- stories
-
--- the struck list is a story with the same entries
-abbrev pub StruckIsStory : Type 0
-StruckIsStory = (says : Says) (before : IssueEntries) (ds : List IssueDelivery) → IssuingStory says before ds → IssuingStory says before (struck issuing before ds) × (entries issuing (struck issuing before ds) ≡ entries issuing ds)
-
--- no two certificates were issued for one request number
-abbrev pub OneCertificate : Type 0
-OneCertificate = (says : Says) (ds : List IssueDelivery) → IssuingStory says [] ds → NoTwo issuing (entries issuing ds)
-
--- Whatever the providers say, what is issued depends on the struck cases and on which unanswered ones left an entry, and on
--- nothing else but for signatures.
-abbrev pub StruckDecides : Type 0
-StruckDecides = (says other : Says) (ds es : List IssueDelivery) → IssuingStory says [] ds → IssuingStory other [] es → InPlaces issuing (AreAlike issuing) (struck issuing [] ds) (struck issuing [] es) → InPlaces issuing (AgreeIn issuing) (struck issuing [] ds) (struck issuing [] es)
-
--- a request that has an entry leaves none, and its answer, if it has one, is that entry's certificate
-abbrev pub RepeatIsKept : Type 0
-RepeatIsKept = (says : Says) (earlier : IssueEntries) (d : IssueDelivery) (p : List ℕ) → kept_for issuing earlier (issuing.query d.case_of) ≡ Some p → Decides issuing (is_signed says) earlier d → (d.left ≡ None) × (is_open d.outcome ≡ false → d.outcome ≡ Kept p)
-
--- whatever is answered is what is due with the entries that stand, but for signatures
-abbrev pub AnswersAreDue : Type 0
-AnswersAreDue = (says : Says) (earlier : IssueEntries) (d : IssueDelivery) → Decides issuing (is_signed says) earlier d → is_open d.outcome ≡ false →
-    bare issuing d.outcome ≡ answer_due (option_map issuing.face (kept_for issuing earlier (issuing.query d.case_of))) (issuing.first (faces issuing earlier) d.case_of) (issuing.due d.case_of)

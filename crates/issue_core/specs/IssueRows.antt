@@ -13,7 +13,7 @@ use Rattle.keeper.specs.declared.rows.Part.{Part}
 use Rattle.keeper.specs.declared.rows.Part.TheVariants.{Register, Issued, Own, Ca}
 use Rattle.keeper.specs.declared.rows.Table.TheVariants as table
 use Rattle.keeper.specs.Rows.{rows_of}
-use Rattle.issue_core.specs.Ledger.{faces, kept_for, IsUnused}
+use Rattle.ledger.specs.Ledger.{faces, kept_for, IsUnused}
 use Rattle.issue_core.specs.Asked.{request_of, number_of, cert_of}
 use Rattle.issue_core.specs.Issuing.{issuing, IssueEntries}
 

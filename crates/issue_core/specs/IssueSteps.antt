@@ -9,7 +9,7 @@ use Rattle.policy_limits.specs.declared.registration.Registration.{Registration}
 use Rattle.keeper.specs.declared.rows.Row.{Row}
 use Rattle.keeper.specs.declared.rows.Table.TheVariants as table
 use Rattle.keeper.specs.Rows.{row_at, rows_of, most_rows}
-use Rattle.issue_core.specs.Ledger.{faces, kept_for, IsUnused}
+use Rattle.ledger.specs.Ledger.{faces, kept_for, IsUnused}
 use Rattle.issue_core.specs.Asked.{request_of}
 use Rattle.issue_core.specs.Rules.{Case, Signer, signer, registered, first_rule}
 use Rattle.issue_core.specs.Due.{due, due_body}

@@ -1,28 +1,28 @@
 -- One call of an issuing desk: one delivery, with the desk's issued rows before it as the earlier entries (this project's
 -- own).
-use Rattle.std.specs.Prelude.{◌≡◌, ◌⊎◌, ℕ, ◌≤◌, List, [], ◌∷◌, ◌++◌, length, Option, Some, None, Result, Ok, Err, IfErr, IfSome, IsTrue, Bool, true, false, if◌then◌else◌}
+use Rattle.std.specs.Prelude.{◌≡◌, ◌≢◌, ◌⊎◌, ℕ, ◌≤◌, List, [], ◌∷◌, ◌++◌, length, Option, Some, None, Result, Ok, Err, IfErr, IfSome, IsTrue, Bool, true, false, if◌then◌else◌}
 use Rattle.std.specs.Str.{bytes_eq}
 use Rattle.eac_base.specs.Causes.{Rose}
-use Rattle.signature_provider.specs.Provider.{PublicKey, Says, Holds, Signed, SaysMore, HoldsMore, KeepsHonest, public_key}
+use Rattle.signature_provider.specs.Provider.{Says, Holds, Signed, SaysMore, HoldsMore, KeepsHonest, public_key}
 use Rattle.cvc_grammar.specs.declared.request.Request.{Request}
 use Rattle.cvc_grammar.specs.declared.certificate.Cert.{Cert}
 use Rattle.cvc_grammar.specs.declared.certificate.CertBody.{CertBody}
-use Rattle.cvc_grammar.specs.Certificate.{is_signature, longest_cert}
+use Rattle.cvc_grammar.specs.Certificate.{is_signature, longest_cert, IsCert}
 use Rattle.cvc_grammar.specs.declared.refusal.CvcRefusal.{CvcRefusal}
 use Rattle.cvc_grammar.specs.declared.refusal.ReadCvc.{ReadCvc}
 use Rattle.cvc_grammar.specs.declared.refusal.ReadCvc.TheVariants as read
-use Rattle.policy_limits.specs.Roster.{Roster}
+use Rattle.policy_limits.specs.Setup.{SetupValue}
 use Rattle.policy_limits.specs.declared.registration.Registration.{Registration}
 use Rattle.keeper.specs.declared.rows.Row.{Row}
 use Rattle.keeper.specs.declared.rows.Part.{Part}
 use Rattle.keeper.specs.declared.rows.Part.TheVariants as part
 use Rattle.keeper.specs.declared.rows.Table.TheVariants as table
-use Rattle.keeper.specs.declared.traits.KeepRefusal.{KeepRefusal}
-use Rattle.keeper.specs.declared.traits.KeepRefusal.TheVariants as refusal
+use Rattle.keeper.specs.declared.keeping.KeepRefusal.{KeepRefusal}
+use Rattle.keeper.specs.declared.keeping.KeepRefusal.TheVariants as refusal
 use Rattle.keeper.specs.Rows.{rows_of}
 use Rattle.keeper.specs.Keeping.{MayAdd}
-use Rattle.issue_core.specs.Ledger.{Outcome, Issued, Kept, Refused, Faulted, NoMemory, faces}
-use Rattle.issue_core.specs.Story.{Decides}
+use Rattle.ledger.specs.Ledger.{Outcome, Issued, Kept, Refused, Faulted, NoMemory, faces}
+use Rattle.ledger.specs.Story.{Decides}
 use Rattle.issue_core.specs.Asked.{request_of, cert_of, cert_message}
 use Rattle.issue_core.specs.Rules.{Case, Issue, Signer, signer, registered}
 use Rattle.issue_core.specs.Due.{due_body}
@@ -49,7 +49,7 @@ outer_bit says es c (Ok r) = outer_said says r r.outer (voucher_for es c r r.out
 outer_bit says es c (Err e) = false
 
 -- without its verdicts
-abbrev pub bare_case : Roster → (desk day : ℕ) → List ℕ → List Row → Case
+abbrev pub bare_case : SetupValue → (desk day : ℕ) → List ℕ → List Row → Case
 bare_case setup desk day bytes rows = record {
   setup = setup;
   desk = desk;
@@ -62,7 +62,7 @@ bare_case setup desk day bytes rows = record {
 }
 
 -- with what the provider says of the two signatures, asked or not
-abbrev pub case_of : Says → Roster → (desk day : ℕ) → List ℕ → List Row → Case
+abbrev pub case_of : Says → SetupValue → (desk day : ℕ) → List ℕ → List Row → Case
 case_of says setup desk day bytes rows =
     let c : Case = bare_case setup desk day bytes rows in
     record c { inner = inner_said says (request_of bytes); outer = outer_bit says (faces issuing (entries_at desk rows)) c (request_of bytes) }
@@ -129,23 +129,21 @@ outcome_of (Err fault.NoMemory) = NoMemory
 
 -- ---- causes, for every keeper and provider
 
--- a key that the provider doesn't hold
-pub record MissingKey (holds : Holds) : Type 0 where
-  pub key : PublicKey
-  pub missing : holds key ≡ false
+-- Why a fault came. Whose key is missing is said by its row's reference: of which row, each kind of call says for itself.
+abbrev pub FaultCause : (missing : List ℕ → Type 0) → IssueFault → ℕ × ℕ → ℕ × ℕ → Type 0
+FaultCause missing fault.KeeperFault k p = Rose k.0 k.1
+FaultCause missing fault.ProviderFault k p = Rose p.0 p.1
+FaultCause missing (fault.NoKey r) k p = missing r
+FaultCause missing fault.NoMemory k p = Unit {0}
 
-abbrev pub FaultCause : IssueFault → Holds → ℕ × ℕ → ℕ × ℕ → Type 0
-FaultCause fault.KeeperFault holds k p = Rose k.0 k.1
-FaultCause fault.ProviderFault holds k p = Rose p.0 p.1
-FaultCause (fault.NoKey r) holds k p = MissingKey holds
-FaultCause fault.NoMemory holds k p = Unit {0}
-
--- The counts haven't fallen. A fault of keeper or provider came only where its count rose, and one on a key only where the
--- provider didn't hold a key.
-pub record IssueCause {T : Type 0} (holds : Holds) (k p : ℕ × ℕ) (result : Result T IssueFault) : Type 0 where
+-- The counts haven't fallen. A fault of keeper or provider came only where its count rose, and where it didn't come, its
+-- count is as before.
+pub record IssueCause {T : Type 0} (missing : List ℕ → Type 0) (k p : ℕ × ℕ) (result : Result T IssueFault) : Type 0 where
   pub keeper_later : k.0 ≤ k.1
   pub provider_later : p.0 ≤ p.1
-  pub failed : IfErr result (λ e. FaultCause e holds k p)
+  pub failed : IfErr result (λ e. FaultCause missing e k p)
+  pub keeper_quiet : result ≢ Err fault.KeeperFault → k.1 ≡ k.0
+  pub provider_quiet : result ≢ Err fault.ProviderFault → p.1 ≡ p.0
 
 -- What the provider said it still says, what it held it still holds, and it stays honest where it was.
 pub record StaysTrue (said says : Says) (held holds : Holds) (was_signed signed : Signed) : Type 0 where
@@ -188,6 +186,7 @@ VerdictCause (fault.NoKey r) before now = ⊥
 pub record VerdictCaused {T : Type 0} (before now : ℕ) (result : Result T IssueFault) : Type 0 where
   pub later : before ≤ now
   pub failed : IfErr result (λ e. VerdictCause e before now)
+  pub quiet : result ≢ Err fault.ProviderFault → now ≡ before
 
 -- a key that is missing is told by this reference
 abbrev pub MakeCause : IssueFault → ℕ → ℕ → Bool → List ℕ → Type 0
@@ -199,6 +198,7 @@ MakeCause fault.KeeperFault before now held reference = ⊥
 pub record MakeCaused {T : Type 0} (before now : ℕ) (held : Bool) (reference : List ℕ) (result : Result T IssueFault) : Type 0 where
   pub later : before ≤ now
   pub failed : IfErr result (λ e. MakeCause e before now held reference)
+  pub quiet : result ≢ Err fault.ProviderFault → now ≡ before
 
 -- a body was signed, with a key that was held before
 pub record IsSigned (says : Says) (held : Holds) (s : Signer) (body : CertBody) (signature : List ℕ) : Type 0 where
@@ -209,6 +209,7 @@ pub record IsSigned (says : Says) (held : Holds) (s : Signer) (body : CertBody) 
 -- a certificate that was made, with a key that is held
 pub record IsMade (says : Says) (held : Bool) (r : Request) (g : Registration) (s : Signer) (days : ℕ × ℕ) (made : Made) : Type 0 where
   pub cert : Cert
+  pub text : IsCert cert made.text
   pub read : cert_of made.text ≡ Ok cert
   pub body : cert.body ≡ due_body r g s days
   pub signed : says (public_key s.key) (cert_message cert.body) cert.signature ≡ true

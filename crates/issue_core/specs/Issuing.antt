@@ -6,8 +6,8 @@ use Rattle.cvc_grammar.specs.declared.certificate.CertBody.{CertBody}
 use Rattle.cvc_grammar.specs.declared.request.Request.{Request}
 use Rattle.cvc_grammar.specs.declared.refusal.CvcRefusal.{CvcRefusal}
 use Rattle.signature_provider.specs.Provider.{Says, public_key}
-use Rattle.issue_core.specs.Ledger.{Desk, Delivery, Entry, Cause, TheKeeper, TheProvider, TheKey}
-use Rattle.issue_core.specs.Story.{Story}
+use Rattle.ledger.specs.Ledger.{Desk, Delivery, Entry, Cause, TheKeeper, TheProvider, TheKey}
+use Rattle.ledger.specs.Story.{Story}
 use Rattle.issue_core.specs.Asked.{request_of, number_of, cert_of, body_of, cert_message}
 use Rattle.issue_core.specs.Rules.{Case, Signer, signer, first_rule}
 use Rattle.issue_core.specs.Due.{due}

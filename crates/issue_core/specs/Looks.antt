@@ -1,5 +1,5 @@
 -- What the rows say of a request, look by look (this project's own).
-use Rattle.std.specs.Prelude.{◌≡◌, ℕ, ◌≤◌, List, length, Option, Some, None, Result, IfErr, Bool, true, false, not, if◌then◌else◌, count_by, nat_lt, option_and_then}
+use Rattle.std.specs.Prelude.{◌≡◌, ◌≢◌, ℕ, ◌≤◌, List, length, Option, Some, None, Result, Err, IfErr, Bool, true, false, not, if◌then◌else◌, count_by, nat_lt, option_and_then}
 use Rattle.eac_base.specs.Causes.{Rose}
 use Rattle.holder_reference.specs.Reference.{holder_part}
 use Rattle.cvc_grammar.specs.declared.request.Request.{Request}
@@ -10,8 +10,8 @@ use Rattle.keeper.specs.declared.rows.Row.{Row}
 use Rattle.keeper.specs.declared.rows.Part.{Part}
 use Rattle.keeper.specs.declared.rows.Part.TheVariants as part
 use Rattle.keeper.specs.declared.rows.Table.TheVariants.{Issued, Own, Ca}
-use Rattle.keeper.specs.declared.traits.KeepRefusal.{KeepRefusal}
-use Rattle.keeper.specs.declared.traits.KeepRefusal.TheVariants as refusal
+use Rattle.keeper.specs.declared.keeping.KeepRefusal.{KeepRefusal}
+use Rattle.keeper.specs.declared.keeping.KeepRefusal.TheVariants as refusal
 use Rattle.keeper.specs.Rows.{row_at, rows_of, holder_rows, is_of_holder}
 use Rattle.issue_core.specs.Rules.{Signer, signer_of, signers, newest, newer, Voucher, ca_voucher, or_else, is_home}
 use Rattle.issue_core.specs.declared.serving.IssueFault.{IssueFault}
@@ -37,6 +37,7 @@ KeeperCause (fault.NoKey r) before now = ⊥
 pub record KeeperCaused {T : Type 0} (before now : ℕ) (result : Result T IssueFault) : Type 0 where
   pub later : before ≤ now
   pub failed : IfErr result (λ e. KeeperCause e before now)
+  pub quiet : result ≢ Err fault.KeeperFault → now ≡ before
 
 -- ---- the own row that signs
 

@@ -1,5 +1,5 @@
 -- The plain register as a desk: a reference with bytes is the request, and the day is what is given (this project's own).
-use Rattle.std.specs.Prelude.{◌≡◌, ◌⊎◌, ℕ, ◌≤◌, ◌&&◌, Bool, true, not, nat_le, List, [], ◌∷◌, ◌++◌, length, map, flat_map, Some, None, Ok, Err, IfErr, if◌then◌else◌}
+use Rattle.std.specs.Prelude.{◌≡◌, ◌≢◌, ◌⊎◌, ℕ, ◌≤◌, ◌&&◌, Bool, true, not, nat_le, List, [], ◌∷◌, ◌++◌, length, map, flat_map, Some, None, Ok, Err, IfErr, if◌then◌else◌}
 use Rattle.std.specs.declared.option.Option.{Option}
 use Rattle.std.specs.declared.result.Result.{Result}
 use Rattle.std.specs.List.{list_any}
@@ -17,8 +17,8 @@ use Rattle.issue_core.specs.declared.serving.RegisterAnswer.{RegisterAnswer}
 use Rattle.issue_core.specs.declared.serving.RegisterAnswer.TheVariants.{Issued as AnswerIssued, Kept as AnswerKept, Refused as AnswerRefused}
 use Rattle.issue_core.specs.declared.serving.IssueFault.{IssueFault}
 use Rattle.issue_core.specs.declared.serving.IssueFault.TheVariants.{KeeperFault, ProviderFault, NoKey, NoMemory as FaultNoMemory}
-use Rattle.issue_core.specs.Ledger.{Desk, TheKeeper, Entry, Outcome, Issued, Kept, Refused, Faulted, NoMemory, Delivery}
-use Rattle.issue_core.specs.Story.{Decides, Story}
+use Rattle.ledger.specs.Ledger.{Desk, TheKeeper, Entry, Outcome, Issued, Kept, Refused, Faulted, NoMemory, Delivery, entries}
+use Rattle.ledger.specs.Story.{Decides, Story}
 
 -- ---- the desk
 
@@ -116,6 +116,10 @@ rows_left asked (Some day) = row_of asked.reference asked.bytes day ∷ []
 abbrev pub rows_added : Deliveries → List Row
 rows_added ds = flat_map (λ (d : Delivery Asked (List ℕ) Rule Fault). rows_left d.case_of d.left) ds
 
+-- the rows that deliveries add are those of the entries that they leave
+abbrev pub RowsAreLedger : Type 0
+RowsAreLedger = (ds : Deliveries) → rows_added ds ≡ rows_of_ledger (entries register ds)
+
 -- ---- one call
 
 -- the call was one delivery, and the row that it added is that of the entry that it left
@@ -148,10 +152,12 @@ IsKeepers ProviderFault = ⊥
 IsKeepers (NoKey reference) = ⊥
 IsKeepers FaultNoMemory = Unit {0}
 
--- the count of faults has not fallen, and the keeper's fault came only where it rose, and no other fault
+-- The count of faults has not fallen. The keeper's fault came only where it rose, where that one didn't come it is as
+-- before, and no other fault comes.
 pub record HasCause {T : Type 0} (before now : ℕ) (result : Result T IssueFault) : Type 0 where
   pub later : before ≤ now
   pub failed : result ≡ Err KeeperFault → Rose before now
+  pub quiet : result ≢ Err KeeperFault → now ≡ before
   pub only : IfErr result IsKeepers
 
 -- ---- for every keeper, whether it tells its rows or not

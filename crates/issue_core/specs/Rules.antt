@@ -8,7 +8,7 @@ use Rattle.cvc_grammar.specs.declared.request.Request.{Request}
 use Rattle.cvc_grammar.specs.declared.request.Outer.{Outer}
 use Rattle.cvc_grammar.specs.declared.certificate.CertBody.{CertBody}
 use Rattle.cvc_grammar.specs.declared.refusal.CvcRefusal.{CvcRefusal}
-use Rattle.policy_limits.specs.Roster.{Roster, registration}
+use Rattle.policy_limits.specs.Setup.{SetupValue, registration}
 use Rattle.policy_limits.specs.Validity.{validity, minimum_days}
 use Rattle.policy_limits.specs.declared.registration.Registration.{Registration}
 use Rattle.policy_limits.specs.declared.registration.First.{First}
@@ -27,7 +27,7 @@ use Rattle.issue_core.specs.Asked.{request_of, number_of}
 -- All that a request is decided by, but the entries: the parties and registrations, the desk with its own rows and its
 -- rows of other authorities, the day, the bytes, and what the provider says of the two signatures.
 pub record Case : Type 0 where
-  pub setup : Roster
+  pub setup : SetupValue
   pub desk : ℕ
   pub own : List Row
   pub cas : List Row

@@ -5,8 +5,8 @@ use Rattle.std.specs.declared.result.Result.{Result}
 use Rattle.keeper.specs.declared.rows.Row.{Row}
 use Rattle.keeper.specs.declared.rows.Table.TheVariants.{Register as RegisterTable}
 use Rattle.keeper.specs.Rows.{row_at, rows_of, most_rows}
-use Rattle.keeper.specs.declared.traits.KeepRefusal.{KeepRefusal}
-use Rattle.keeper.specs.declared.traits.KeepRefusal.TheVariants.{Failed, Full as KeeperFull, Twice, Absent, NoMemory as KeeperNoMemory}
+use Rattle.keeper.specs.declared.keeping.KeepRefusal.{KeepRefusal}
+use Rattle.keeper.specs.declared.keeping.KeepRefusal.TheVariants.{Failed, Full as KeeperFull, Twice, Absent, NoMemory as KeeperNoMemory}
 use Rattle.issue_core.specs.declared.rule.Rule.TheVariants.{Full}
 use Rattle.issue_core.specs.declared.serving.RegisterAnswer.{RegisterAnswer}
 use Rattle.issue_core.specs.declared.serving.RegisterAnswer.TheVariants.{Issued, Refused}

@@ -5,7 +5,6 @@ ghost use Rattle.std.specs.Prelude.{◌≡◌};
 ghost use Rattle.keeper.specs.Rows.{IsStorable, IsStorableKey, IsStorableSettled};
 
 use crate::deciding::{Seen, first_of_seen};
-use crate::late_keeper::LateKeeper;
 use crate::signing_row::Signing;
 use crate::{Answer, IssueFault, Rule, issue};
 use chat_rights::{Kind, Rights, Role, Template};
@@ -13,6 +12,7 @@ use cv_dates::{Day, day_from_text};
 use cvc_grammar::{Request, read_request};
 use eac_base::{FailPlan, Octets};
 use holder_reference::{Reference, read_reference};
+use keeper::doubles::LateKeeper;
 use keeper::{
     CaPart, IssuedPart, Keeper, KeeperPlan, MemoryKeeper, OwnPart, Part, Row, Settled, Table,
 };

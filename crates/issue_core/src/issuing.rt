@@ -12,6 +12,8 @@ ghost use Rattle.issue_core.specs.declared.deciding.Seen.{Seen};
 ghost use Rattle.issue_core.specs.IssueRows.{AreReadable};
 ghost use Rattle.issue_core.specs.Looks.{KeeperCaused};
 ghost use Rattle.issue_core.specs.Issues.{IsCaseOf, unreadable_answer, kept_answer, added_answer, IssueCause, StaysTrue, Enters, Serves, outcome_of, case_of, bare_case};
+ghost use Rattle.issue_core.specs.Signed.{SignsServed, Delivers};
+ghost use Rattle.issue_core.specs.ProviderCalls.{standing, MissesKey, CallsProvider, OwesAsking, OwesAll};
 ghost use Rattle.issue_core.specs.AnswerCauses.{IsAdmitted, HasSeen, IsCleared, MayMake, Answered, AddingSays};
 ghost use Rattle.issue_core.specs.IssueSteps.{Ready, Allowed, Passed, Looked, Fresh, WasRead, ByLists};
 
@@ -101,7 +103,7 @@ fn answer_added(
     }
 }
 
-// Adds the row: the last outside call.
+// Adds the row.
 fn enter<B: Keeper>(
     alloc: Global,
     row: &Row,
@@ -110,7 +112,8 @@ fn enter<B: Keeper>(
     keeper: &mut B,
 ) -> Result<Answer, IssueFault>
     requires { IsStorable row.now }
-    ensures told { Told (B.rows keeper.old) (B.rows keeper.new) (λ before after. Enters before after row.now certificate result) }
+    ensures told { Told (B.rows keeper.old) (B.rows keeper.new) (λ before after. Enters before after row.now certificate
+        result) }
     ensures answered { IfOk result (AddingSays row.now certificate request.now) }
     ensures cause { KeeperCaused (B.faults keeper.old) (B.faults keeper.new) result }
 {
@@ -119,7 +122,16 @@ fn enter<B: Keeper>(
 }
 
 fn issued_row(desk: u32, read: Request, request: Octets, settled: Settled) -> Row
-    ensures { result ≡ record { desk = desk; reference = read.body.holder; part = part.Issued (record { request = request; key = read.body.key; settled = settled }) } }
+    ensures { result ≡ record {
+      desk = desk;
+      reference = read.body.holder;
+      part = part.Issued (record {
+        request =
+            request;
+        key = read.body.key;
+        settled = settled;
+      });
+    } }
 {
     let Request {
         body,
@@ -149,11 +161,15 @@ fn serve_made<B: Keeper, P: SignatureProvider>(
     provider: &mut P,
 ) -> Result<Answer, IssueFault>
     requires { IsRequest read call.now.bytes.now }
-    ensures told { Told (B.rows keeper.old) (B.rows keeper.new) (λ before after. (c : Case) → IsCaseOf c call.now → Ready c read registration.now signing.now days before →
-        Serves (P.says provider.new) (P.holds provider.old) c (outcome_of result) (B.faults keeper.old, B.faults keeper.new) (P.faults provider.old, P.faults provider.new) before after) }
-    ensures answered { (said : Says) → (c : Case) → IsCaseOf c call.now → MayMake said c read registration.now signing.now days → Answered said (P.says provider.new) (P.holds provider.old) c result }
-    ensures cause { IssueCause (P.holds provider.old) (B.faults keeper.old, B.faults keeper.new) (P.faults provider.old, P.faults provider.new) result }
-    ensures provider { StaysTrue (P.says provider.old) (P.says provider.new) (P.holds provider.old) (P.holds provider.new) (P.signed provider.old) (P.signed provider.new) }
+    ensures told { Told (B.rows keeper.old) (B.rows keeper.new) (λ before after. (c : Case) → IsCaseOf c call.now →
+        Ready c read registration.now signing.now days before →
+        Delivers (P.says provider.new) (P.holds provider.old) (P.signed provider.old, P.signed provider.new) c
+        (outcome_of result)
+        (B.faults keeper.old, B.faults keeper.new) (P.faults provider.old, P.faults provider.new) before after) }
+    ensures any { (said : Says) → (c : Case) → IsCaseOf c call.now → MayMake said c read registration.now signing.now
+        days → OwesAsking said c (B.faults keeper.old, B.faults keeper.new)
+        (standing (P.says provider.old) (P.holds provider.old) (P.signed provider.old) (P.faults provider.old))
+        (standing (P.says provider.new) (P.holds provider.new) (P.signed provider.new) (P.faults provider.new)) result }
 {
     let Ok(kept) = Octets::from_slice(alloc, call.bytes) else {
         return Err(IssueFault::NoMemory);
@@ -179,11 +195,15 @@ fn serve_due<B: Keeper, P: SignatureProvider>(
     provider: &mut P,
 ) -> Result<Answer, IssueFault>
     requires { IsRequest read call.now.bytes.now }
-    ensures told { Told (B.rows keeper.old) (B.rows keeper.new) (λ before after. (c : Case) → IsCaseOf c call.now → Allowed c read registration.now signing.now before →
-        Serves (P.says provider.new) (P.holds provider.old) c (outcome_of result) (B.faults keeper.old, B.faults keeper.new) (P.faults provider.old, P.faults provider.new) before after) }
-    ensures answered { (said : Says) → (c : Case) → (seen : Seen) → IsCaseOf c call.now → seen.signing ≡ signing.now → IsCleared said c read registration.now seen → Answered said (P.says provider.new) (P.holds provider.old) c result }
-    ensures cause { IssueCause (P.holds provider.old) (B.faults keeper.old, B.faults keeper.new) (P.faults provider.old, P.faults provider.new) result }
-    ensures provider { StaysTrue (P.says provider.old) (P.says provider.new) (P.holds provider.old) (P.holds provider.new) (P.signed provider.old) (P.signed provider.new) }
+    ensures told { Told (B.rows keeper.old) (B.rows keeper.new) (λ before after. (c : Case) → IsCaseOf c call.now →
+        Allowed c read registration.now signing.now before →
+        Delivers (P.says provider.new) (P.holds provider.old) (P.signed provider.old, P.signed provider.new) c
+        (outcome_of result)
+        (B.faults keeper.old, B.faults keeper.new) (P.faults provider.old, P.faults provider.new) before after) }
+    ensures any { (said : Says) → (c : Case) → (seen : Seen) → IsCaseOf c call.now → seen.signing ≡ signing.now →
+        IsCleared said c read registration.now seen → OwesAsking said c (B.faults keeper.old, B.faults keeper.new)
+        (standing (P.says provider.old) (P.holds provider.old) (P.signed provider.old) (P.faults provider.old))
+        (standing (P.says provider.new) (P.holds provider.new) (P.signed provider.new) (P.faults provider.new)) result }
 {
     match signing {
         None => Ok(Answer::Refused(Rule::Authority)),
@@ -221,11 +241,19 @@ fn serve_allowed<B: Keeper, P: SignatureProvider>(
     provider: &mut P,
 ) -> Result<Answer, IssueFault>
     requires { IsRequest read call.now.bytes.now }
-    ensures told { Told (B.rows keeper.old) (B.rows keeper.new) (λ before after. (c : Case) → IsCaseOf c call.now → Passed (P.says provider.old) c read registration.now seen.now before →
-        Serves (P.says provider.new) (P.holds provider.old) c (outcome_of result) (B.faults keeper.old, B.faults keeper.new) (P.faults provider.old, P.faults provider.new) before after) }
-    ensures answered { (c : Case) → IsCaseOf c call.now → HasSeen c read registration.now seen.now → first_seen call.now.day read registration.now seen.now ≡ None → Answered (P.says provider.old) (P.says provider.new) (P.holds provider.old) c result }
-    ensures cause { IssueCause (P.holds provider.old) (B.faults keeper.old, B.faults keeper.new) (P.faults provider.old, P.faults provider.new) result }
-    ensures provider { StaysTrue (P.says provider.old) (P.says provider.new) (P.holds provider.old) (P.holds provider.new) (P.signed provider.old) (P.signed provider.new) }
+    ensures told { Told (B.rows keeper.old) (B.rows keeper.new) (λ before after. (c : Case) → IsCaseOf c call.now →
+        Passed (P.says provider.old) c read registration.now seen.now before →
+        Delivers (P.says provider.new) (P.holds provider.old) (P.signed provider.old, P.signed provider.new) c
+        (outcome_of result)
+        (B.faults keeper.old, B.faults keeper.new) (P.faults provider.old, P.faults provider.new) before after) }
+    ensures any { (c : Case) → IsCaseOf c call.now → HasSeen c read registration.now seen.now → first_seen call.now.day
+        read registration.now seen.now ≡ None → OwesAsking (P.says provider.old) c (
+          B.faults keeper.old,
+          B.faults
+              keeper.new,
+        )
+        (standing (P.says provider.old) (P.holds provider.old) (P.signed provider.old) (P.faults provider.old))
+        (standing (P.says provider.new) (P.holds provider.new) (P.signed provider.new) (P.faults provider.new)) result }
 {
     match ask(alloc, &read, &seen.vouching, provider) {
         Err(fault) => Err(fault),
@@ -252,11 +280,15 @@ fn serve_registered<B: Keeper, P: SignatureProvider>(
     provider: &mut P,
 ) -> Result<Answer, IssueFault>
     requires { IsRequest read call.now.bytes.now }
-    ensures told { Told (B.rows keeper.old) (B.rows keeper.new) (λ before after. (c : Case) → IsCaseOf c call.now → Looked (P.says provider.old) c read registration.now before →
-        Serves (P.says provider.new) (P.holds provider.old) c (outcome_of result) (B.faults keeper.old, B.faults keeper.new) (P.faults provider.old, P.faults provider.new) before after) }
-    ensures answered { (c : Case) → IsCaseOf c call.now → IsAdmitted c read registration.now → Answered (P.says provider.old) (P.says provider.new) (P.holds provider.old) c result }
-    ensures cause { IssueCause (P.holds provider.old) (B.faults keeper.old, B.faults keeper.new) (P.faults provider.old, P.faults provider.new) result }
-    ensures provider { StaysTrue (P.says provider.old) (P.says provider.new) (P.holds provider.old) (P.holds provider.new) (P.signed provider.old) (P.signed provider.new) }
+    ensures told { Told (B.rows keeper.old) (B.rows keeper.new) (λ before after. (c : Case) → IsCaseOf c call.now →
+        Looked (P.says provider.old) c read registration.now before →
+        Delivers (P.says provider.new) (P.holds provider.old) (P.signed provider.old, P.signed provider.new) c
+        (outcome_of result)
+        (B.faults keeper.old, B.faults keeper.new) (P.faults provider.old, P.faults provider.new) before after) }
+    ensures any { (c : Case) → IsCaseOf c call.now → IsAdmitted c read registration.now → OwesAll (P.says provider.old)
+        c (B.faults keeper.old, B.faults keeper.new)
+        (standing (P.says provider.old) (P.holds provider.old) (P.signed provider.old) (P.faults provider.old))
+        (standing (P.says provider.new) (P.holds provider.new) (P.signed provider.new) (P.faults provider.new)) result }
 {
     match gather(alloc, call.desk, call.day, &read, registration, keeper) {
         Err(fault) => Err(fault),
@@ -276,11 +308,15 @@ fn serve_new<B: Keeper, P: SignatureProvider>(
     provider: &mut P,
 ) -> Result<Answer, IssueFault>
     requires { IsRequest read call.now.bytes.now }
-    ensures told { Told (B.rows keeper.old) (B.rows keeper.new) (λ before after. (c : Case) → IsCaseOf c call.now → Fresh (P.says provider.old) c read before →
-        Serves (P.says provider.new) (P.holds provider.old) c (outcome_of result) (B.faults keeper.old, B.faults keeper.new) (P.faults provider.old, P.faults provider.new) before after) }
-    ensures answered { (c : Case) → IsCaseOf c call.now → request_of call.now.bytes.now ≡ Ok read → Answered (P.says provider.old) (P.says provider.new) (P.holds provider.old) c result }
-    ensures cause { IssueCause (P.holds provider.old) (B.faults keeper.old, B.faults keeper.new) (P.faults provider.old, P.faults provider.new) result }
-    ensures provider { StaysTrue (P.says provider.old) (P.says provider.new) (P.holds provider.old) (P.holds provider.new) (P.signed provider.old) (P.signed provider.new) }
+    ensures told { Told (B.rows keeper.old) (B.rows keeper.new) (λ before after. (c : Case) → IsCaseOf c call.now →
+        Fresh (P.says provider.old) c read before →
+        Delivers (P.says provider.new) (P.holds provider.old) (P.signed provider.old, P.signed provider.new) c
+        (outcome_of result)
+        (B.faults keeper.old, B.faults keeper.new) (P.faults provider.old, P.faults provider.new) before after) }
+    ensures any { (c : Case) → IsCaseOf c call.now → request_of call.now.bytes.now ≡ Ok read → OwesAll (P.says
+        provider.old) c (B.faults keeper.old, B.faults keeper.new)
+        (standing (P.says provider.old) (P.holds provider.old) (P.signed provider.old) (P.faults provider.old))
+        (standing (P.says provider.new) (P.holds provider.new) (P.signed provider.new) (P.faults provider.new)) result }
 {
     let holder = read.body.holder.holder();
     match call.setup.registration(call.desk, &holder) {
@@ -304,11 +340,15 @@ fn serve_read<B: Keeper, P: SignatureProvider>(
     provider: &mut P,
 ) -> Result<Answer, IssueFault>
     requires { IsRequest read call.now.bytes.now }
-    ensures told { Told (B.rows keeper.old) (B.rows keeper.new) (λ before after. (c : Case) → IsCaseOf c call.now → WasRead (P.says provider.old) c read before →
-        Serves (P.says provider.new) (P.holds provider.old) c (outcome_of result) (B.faults keeper.old, B.faults keeper.new) (P.faults provider.old, P.faults provider.new) before after) }
-    ensures answered { (c : Case) → IsCaseOf c call.now → request_of call.now.bytes.now ≡ Ok read → Answered (P.says provider.old) (P.says provider.new) (P.holds provider.old) c result }
-    ensures cause { IssueCause (P.holds provider.old) (B.faults keeper.old, B.faults keeper.new) (P.faults provider.old, P.faults provider.new) result }
-    ensures provider { StaysTrue (P.says provider.old) (P.says provider.new) (P.holds provider.old) (P.holds provider.new) (P.signed provider.old) (P.signed provider.new) }
+    ensures told { Told (B.rows keeper.old) (B.rows keeper.new) (λ before after. (c : Case) → IsCaseOf c call.now →
+        WasRead (P.says provider.old) c read before →
+        Delivers (P.says provider.new) (P.holds provider.old) (P.signed provider.old, P.signed provider.new) c
+        (outcome_of result)
+        (B.faults keeper.old, B.faults keeper.new) (P.faults provider.old, P.faults provider.new) before after) }
+    ensures any { (c : Case) → IsCaseOf c call.now → request_of call.now.bytes.now ≡ Ok read → OwesAll (P.says
+        provider.old) c (B.faults keeper.old, B.faults keeper.new)
+        (standing (P.says provider.old) (P.holds provider.old) (P.signed provider.old) (P.faults provider.old))
+        (standing (P.says provider.new) (P.holds provider.new) (P.signed provider.new) (P.faults provider.new)) result }
 {
     match look(alloc, Table::Issued, call.desk, &read.body.holder, keeper) {
         Err(fault) => Err(fault),
@@ -325,12 +365,16 @@ fn serve<B: Keeper, P: SignatureProvider>(
     provider: &mut P,
 ) -> Result<Answer, IssueFault>
     ensures told { Told (B.rows keeper.old) (B.rows keeper.new) (λ before after.
-        ByLists (P.says provider.old) (case_of (P.says provider.old) call.now.setup.now call.now.desk call.now.day call.now.bytes.now before) before →
-        Serves (P.says provider.new) (P.holds provider.old) (case_of (P.says provider.old) call.now.setup.now call.now.desk call.now.day call.now.bytes.now before) (outcome_of result)
+        ByLists (P.says provider.old) (case_of (P.says provider.old) call.now.setup.now call.now.desk call.now.day
+        call.now.bytes.now before) before →
+        Delivers (P.says provider.new) (P.holds provider.old) (P.signed provider.old, P.signed provider.new)
+        (case_of (P.says provider.old) call.now.setup.now call.now.desk call.now.day call.now.bytes.now before)
+        (outcome_of result)
         (B.faults keeper.old, B.faults keeper.new) (P.faults provider.old, P.faults provider.new) before after) }
-    ensures answered { Answered (P.says provider.old) (P.says provider.new) (P.holds provider.old) (bare_case call.now.setup.now call.now.desk call.now.day call.now.bytes.now []) result }
-    ensures cause { IssueCause (P.holds provider.old) (B.faults keeper.old, B.faults keeper.new) (P.faults provider.old, P.faults provider.new) result }
-    ensures provider { StaysTrue (P.says provider.old) (P.says provider.new) (P.holds provider.old) (P.holds provider.new) (P.signed provider.old) (P.signed provider.new) }
+    ensures any { OwesAll (P.says provider.old) (bare_case call.now.setup.now call.now.desk call.now.day
+        call.now.bytes.now []) (B.faults keeper.old, B.faults keeper.new)
+        (standing (P.says provider.old) (P.holds provider.old) (P.signed provider.old) (P.faults provider.old))
+        (standing (P.says provider.new) (P.holds provider.new) (P.signed provider.new) (P.faults provider.new)) result }
 {
     match read_request(alloc, call.bytes) {
         Err(refusal) => unreadable(refusal),
@@ -342,20 +386,21 @@ fn serve<B: Keeper, P: SignatureProvider>(
 ///
 /// The first of the fourteen rules of [`Rule`] that is broken is answered; a request that was served before is `Kept` with
 /// its certificate before the rules 3 to 14 are looked at. Where no rule is broken the certificate that is due is signed
-/// with the key of the desk's own row, its row is added, and it is answered: there is one keeper write, and it is the last
-/// outside call. The provider is asked for its verdict on the inner signature where no rule up to 12 is broken, and on the
+/// with the key of the desk's own row, its row is added, and it is answered. The provider is asked for its verdict on the inner signature where no rule up to 12 is broken, and on the
 /// outer one where it said yes to the inner.
 ///
 /// # Errors
 ///
-/// `KeeperFault` and `ProviderFault` only where that count rose in this call or stands at its last value; `NoKey` exactly
-/// where no rule is broken and the provider doesn't hold the key of the row with that reference, which is the one to sign
-/// with; and `NoMemory`. After a fault of the keeper or want of memory the row may stand, and then the same request is
+/// `KeeperFault` and `ProviderFault` only where that count rose in this call or stands at its last value; where such a fault
+/// isn't answered, its count is as before. `NoKey` only where no rule is broken by what the keeper gave and the provider
+/// doesn't hold the key of the row with that reference, which is the one to sign with; where the rows are told, exactly
+/// there. And `NoMemory`. After a fault of the keeper or want of memory the row may stand, and then the same request is
 /// answered with it.
 ///
 /// A keeper that doesn't tell its rows may answer to the adding that the key is there, which is answered as `Kept` or
-/// `Used` by its row's bytes, or that the table is full, which is rule 12. It gives rows that are as was asked for, and
-/// each answer has its cause in them, in the setup, the day, the bytes and the verdicts.
+/// `Used` by its row's bytes, or that the table is full, which is rule 12. Each answer then has its cause in the setup, the
+/// day, the bytes, the verdicts and rows that are as was asked for: that these are the rows which this keeper gave isn't
+/// said.
 pub fn issue<B: Keeper, P: SignatureProvider>(
     alloc: Global,
     setup: &Setup,
@@ -368,15 +413,31 @@ pub fn issue<B: Keeper, P: SignatureProvider>(
     // Where the rows are told after the call and were readable before it, it was one delivery of the desk's story, with the
     // desk's issued rows before it as the earlier entries and with the provider's verdicts at the call.
     ensures delivery { Told (B.rows keeper.old) (B.rows keeper.new) (λ before after. AreReadable before →
-        Serves (P.says provider.new) (P.holds provider.old) (case_of (P.says provider.old) setup.now desk day request.now before) (outcome_of result)
+        Serves (P.says provider.new) (P.holds provider.old) (case_of (P.says provider.old) setup.now desk day
+        request.now before) (outcome_of result)
         (B.faults keeper.old, B.faults keeper.new) (P.faults provider.old, P.faults provider.new) before after) }
-    // Whether the keeper tells its rows or not, an answer has its cause in the setup, the day, the bytes, the verdicts and the
-    // rows that the keeper gave.
-    ensures answered { Answered (P.says provider.old) (P.says provider.new) (P.holds provider.old) (bare_case setup.now desk day request.now []) result }
-    // For every keeper and provider, the counts haven't fallen, and a fault came only where its count rose or a key is
-    // missing; the provider says and holds what it did, and stays honest.
-    ensures cause { IssueCause (P.holds provider.old) (B.faults keeper.old, B.faults keeper.new) (P.faults provider.old, P.faults provider.new) result }
-    ensures provider { StaysTrue (P.says provider.old) (P.says provider.new) (P.holds provider.old) (P.holds provider.new) (P.signed provider.old) (P.signed provider.new) }
+    // There the body of the row that was added was signed by the key of the row that signs, and nothing else; without a row
+    // nothing, or that one pair alone where the request was to be answered and the keeper failed or memory was wanting.
+    ensures signed { Told (B.rows keeper.old) (B.rows keeper.new) (λ before after. AreReadable before →
+        SignsServed (case_of (P.says provider.old) setup.now desk day request.now before) (outcome_of result)
+        (P.signed provider.old, P.signed provider.new) before after) }
+    // Whether the keeper tells its rows or not, an answer has its cause in the setup, the day, the bytes, the verdicts and
+    // rows as they were asked for.
+    ensures answered { Answered (P.says provider.old) (P.says provider.new) (P.holds provider.old) (bare_case setup.now
+        desk day request.now []) result }
+    // For every keeper and provider, the counts haven't fallen, each stands but for its own fault, and a fault came only
+    // where its count rose or the key to sign with is missing.
+    ensures cause { IssueCause (MissesKey (P.says provider.old) (P.holds provider.old) (bare_case setup.now desk day
+        request.now []))
+        (B.faults keeper.old, B.faults keeper.new) (P.faults provider.old, P.faults provider.new) result }
+    // For every keeper the provider is asked only where by what was seen no rule up to 12 is broken, and signs at most one
+    // body, the one that is due, where its verdicts are yes too. Otherwise it is left as it was.
+    ensures called { CallsProvider (P.says provider.old) (bare_case setup.now desk day request.now [])
+        (standing (P.says provider.old) (P.holds provider.old) (P.signed provider.old) (P.faults provider.old))
+        (standing (P.says provider.new) (P.holds provider.new) (P.signed provider.new) (P.faults provider.new)) result }
+    // It says and holds what it did, and stays honest.
+    ensures provider { StaysTrue (P.says provider.old) (P.says provider.new) (P.holds provider.old) (P.holds
+        provider.new) (P.signed provider.old) (P.signed provider.new) }
 {
     let call = Call {
         setup,

@@ -25,8 +25,6 @@ mod issue_laws;
 #[cfg(test)]
 mod issue_tests;
 mod issuing;
-#[cfg(test)]
-mod late_keeper;
 mod laws;
 mod looking;
 mod making;

@@ -27,7 +27,8 @@ pub fn look<B: Keeper>(
     reference: &Reference,
     keeper: &mut B,
 ) -> Result<Option<Row>, IssueFault>
-    ensures told { Told (B.rows keeper.old) (B.rows keeper.new) (λ before after. (after ≡ before) × IfOk result (λ o. o ≡ row_at table desk reference.now before)) }
+    ensures told { Told (B.rows keeper.old) (B.rows keeper.new) (λ before after. (after ≡ before) × IfOk result (λ o. o
+        ≡ row_at table desk reference.now before)) }
     ensures asked { IfOk result (λ o. IfSome o (IsAsked table desk reference.now)) }
     ensures cause { KeeperCaused (B.faults keeper.old) (B.faults keeper.new) result }
 {
@@ -42,7 +43,8 @@ fn find_newest<B: Keeper>(
     desk: u32,
     keeper: &mut B,
 ) -> Result<Option<Signing>, IssueFault>
-    ensures told { Told (B.rows keeper.old) (B.rows keeper.new) (λ before after. (after ≡ before) × IfOk result (λ o. o ≡ signing_in desk None before)) }
+    ensures told { Told (B.rows keeper.old) (B.rows keeper.new) (λ before after. (after ≡ before) × IfOk result (λ o. o
+        ≡ signing_in desk None before)) }
     ensures asked { IfOk result (NewestSigns desk) }
     ensures cause { KeeperCaused (B.faults keeper.old) (B.faults keeper.new) result }
 {
@@ -62,7 +64,8 @@ fn find_signing<B: Keeper>(
     authority: &Option<Reference>,
     keeper: &mut B,
 ) -> Result<Option<Signing>, IssueFault>
-    ensures told { Told (B.rows keeper.old) (B.rows keeper.new) (λ before after. (after ≡ before) × IfOk result (λ o. o ≡ signing_in desk authority.now before)) }
+    ensures told { Told (B.rows keeper.old) (B.rows keeper.new) (λ before after. (after ≡ before) × IfOk result (λ o. o
+        ≡ signing_in desk authority.now before)) }
     ensures asked { IfOk result (SignsAs desk authority.now) }
     ensures cause { KeeperCaused (B.faults keeper.old) (B.faults keeper.new) result }
 {
@@ -84,7 +87,8 @@ fn find_vouching<B: Keeper>(
     reference: &Reference,
     keeper: &mut B,
 ) -> Result<Option<Vouching>, IssueFault>
-    ensures told { Told (B.rows keeper.old) (B.rows keeper.new) (λ before after. (after ≡ before) × IfOk result (λ o. o ≡ vouching_in desk first.now holder.now reference.now before)) }
+    ensures told { Told (B.rows keeper.old) (B.rows keeper.new) (λ before after. (after ≡ before) × IfOk result (λ o. o
+        ≡ vouching_in desk first.now holder.now reference.now before)) }
     ensures asked { IfOk result (VouchesAs desk first.now holder.now reference.now) }
     ensures cause { KeeperCaused (B.faults keeper.old) (B.faults keeper.new) result }
 {
@@ -105,7 +109,8 @@ fn find_outer<B: Keeper>(
     outer: &Option<Outer>,
     keeper: &mut B,
 ) -> Result<Option<Vouching>, IssueFault>
-    ensures told { Told (B.rows keeper.old) (B.rows keeper.new) (λ before after. (after ≡ before) × IfOk result (λ o. o ≡ outer_in desk first.now holder.now outer.now before)) }
+    ensures told { Told (B.rows keeper.old) (B.rows keeper.new) (λ before after. (after ≡ before) × IfOk result (λ o. o
+        ≡ outer_in desk first.now holder.now outer.now before)) }
     ensures asked { IfOk result (OuterVouchesAs desk first.now holder.now outer.now) }
     ensures cause { KeeperCaused (B.faults keeper.old) (B.faults keeper.new) result }
 {
@@ -140,7 +145,8 @@ fn find_live<B: Keeper>(
     holder: &Holder,
     keeper: &mut B,
 ) -> Result<(usize, usize), IssueFault>
-    ensures told { Told (B.rows keeper.old) (B.rows keeper.new) (λ before after. (after ≡ before) × IfOk result (HolderSeen day (holder_rows table.Issued desk holder.now before))) }
+    ensures told { Told (B.rows keeper.old) (B.rows keeper.new) (λ before after. (after ≡ before) × IfOk result
+        (HolderSeen day (holder_rows table.Issued desk holder.now before))) }
     ensures asked { IfOk result (HeldAs desk day holder.now) }
     ensures cause { KeeperCaused (B.faults keeper.old) (B.faults keeper.new) result }
 {
@@ -151,7 +157,8 @@ fn find_live<B: Keeper>(
 }
 
 fn find_count<B: Keeper>(alloc: Global, desk: u32, keeper: &mut B) -> Result<u64, IssueFault>
-    ensures told { Told (B.rows keeper.old) (B.rows keeper.new) (λ before after. (after ≡ before) × IfOk result (λ n. n ≡ length (rows_of table.Issued desk before))) }
+    ensures told { Told (B.rows keeper.old) (B.rows keeper.new) (λ before after. (after ≡ before) × IfOk result (λ n. n
+        ≡ length (rows_of table.Issued desk before))) }
     ensures cause { KeeperCaused (B.faults keeper.old) (B.faults keeper.new) result }
 {
     match keeper.count(alloc, Table::Issued, desk) {
@@ -168,7 +175,8 @@ fn find_counts<B: Keeper>(
     holder: &Holder,
     keeper: &mut B,
 ) -> Result<(usize, usize, u64), IssueFault>
-    ensures told { Told (B.rows keeper.old) (B.rows keeper.new) (λ before after. (after ≡ before) × IfOk result (CountsSeen desk day holder.now before)) }
+    ensures told { Told (B.rows keeper.old) (B.rows keeper.new) (λ before after. (after ≡ before) × IfOk result
+        (CountsSeen desk day holder.now before)) }
     ensures asked { IfOk result (λ seen. HeldAs desk day holder.now (seen.0, seen.1)) }
     ensures cause { KeeperCaused (B.faults keeper.old) (B.faults keeper.new) result }
 {
@@ -186,7 +194,8 @@ pub fn gather<B: Keeper>(
     registration: &Registration,
     keeper: &mut B,
 ) -> Result<Seen, IssueFault>
-    ensures told { Told (B.rows keeper.old) (B.rows keeper.new) (λ before after. (after ≡ before) × IfOk result (IsSeen desk day request.now registration.now before)) }
+    ensures told { Told (B.rows keeper.old) (B.rows keeper.new) (λ before after. (after ≡ before) × IfOk result (IsSeen
+        desk day request.now registration.now before)) }
     ensures asked { IfOk result (IsSeenAsked desk day request.now registration.now) }
     ensures cause { KeeperCaused (B.faults keeper.old) (B.faults keeper.new) result }
 {

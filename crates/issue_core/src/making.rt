@@ -5,8 +5,10 @@ ghost use Rattle.signature_provider.specs.Provider.{public_key};
 ghost use Rattle.cvc_grammar.specs.Request.{IsLegalRequest};
 ghost use Rattle.cvc_grammar.specs.Certificate.{IsLegalBody, IsLegalCert, IsCert};
 ghost use Rattle.issue_core.specs.Due.{bare_key, due_body};
+ghost use Rattle.issue_core.specs.Asked.{cert_message};
 ghost use Rattle.issue_core.specs.IssueRows.{settled_of};
 ghost use Rattle.issue_core.specs.Issues.{MakeCaused, StaysTrue, IsMade, IsSigned};
+ghost use Rattle.issue_core.specs.Signed.{SignsOnce, MakeSigns};
 
 use crate::IssueFault;
 use crate::signing_row::Signing;
@@ -91,8 +93,15 @@ fn sign_body<P: SignatureProvider>(
 ) -> Result<Octets, IssueFault>
     requires { IsLegalBody body.now }
     ensures made { IfOk result (λ s. IsSigned (P.says provider.new) (P.holds provider.old) signing.now body.now s) }
-    ensures provider { StaysTrue (P.says provider.old) (P.says provider.new) (P.holds provider.old) (P.holds provider.new) (P.signed provider.old) (P.signed provider.new) }
-    ensures cause { MakeCaused (P.faults provider.old) (P.faults provider.new) (P.holds provider.old (public_key signing.now.key)) signing.now.reference result }
+    ensures signed { SignsOnce (P.signed provider.old, P.signed provider.new) (
+      public_key signing.now.key,
+      cert_message
+          body.now,
+    ) result }
+    ensures provider { StaysTrue (P.says provider.old) (P.says provider.new) (P.holds provider.old) (P.holds
+        provider.new) (P.signed provider.old) (P.signed provider.new) }
+    ensures cause { MakeCaused (P.faults provider.old) (P.faults provider.new) (P.holds provider.old (public_key
+        signing.now.key)) signing.now.reference result }
 {
     let Ok(text) = write_body(alloc, body) else {
         return Err(IssueFault::NoMemory);
@@ -125,9 +134,18 @@ pub fn make<P: SignatureProvider>(
     provider: &mut P,
 ) -> Result<Made, IssueFault>
     requires { IsLegalRequest request.now }
-    ensures made { IfOk result (IsMade (P.says provider.new) (P.holds provider.old (public_key signing.now.key)) request.now registration.now signing.now days) }
-    ensures provider { StaysTrue (P.says provider.old) (P.says provider.new) (P.holds provider.old) (P.holds provider.new) (P.signed provider.old) (P.signed provider.new) }
-    ensures cause { MakeCaused (P.faults provider.old) (P.faults provider.new) (P.holds provider.old (public_key signing.now.key)) signing.now.reference result }
+    ensures made { IfOk result (IsMade (P.says provider.new) (P.holds provider.old (public_key signing.now.key))
+        request.now registration.now signing.now days) }
+    // What was signed is the body, by the key of the row that signs, also where memory is wanting for the certificate.
+    ensures signed { MakeSigns (P.signed provider.old, P.signed provider.new) (
+      public_key signing.now.key,
+      cert_message
+          (due_body request.now registration.now signing.now days),
+    ) result }
+    ensures provider { StaysTrue (P.says provider.old) (P.says provider.new) (P.holds provider.old) (P.holds
+        provider.new) (P.signed provider.old) (P.signed provider.new) }
+    ensures cause { MakeCaused (P.faults provider.old) (P.faults provider.new) (P.holds provider.old (public_key
+        signing.now.key)) signing.now.reference result }
 {
     stands(&signing.reference);
     stands(&request.body.holder);

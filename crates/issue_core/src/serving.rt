@@ -81,7 +81,8 @@ fn look_at_row<B: Keeper>(
     request: &[u8],
     keeper: &mut B,
 ) -> Result<Option<RegisterAnswer>, IssueFault>
-    ensures told { Told (B.rows keeper.old) (B.rows keeper.new) (λ before after. (after ≡ before) × IfOk result (λ o. o ≡ row_answer (row_at RegisterTable 0 reference.now before) request.now)) }
+    ensures told { Told (B.rows keeper.old) (B.rows keeper.new) (λ before after. (after ≡ before) × IfOk result (λ o. o
+        ≡ row_answer (row_at RegisterTable 0 reference.now before) request.now)) }
     ensures answered { (day : List ℕ) → IfOk result (λ o. IfSome o (RegisterCause reference.now request.now day)) }
     ensures cause { HasCause (B.faults keeper.old) (B.faults keeper.new) result }
 {
@@ -95,7 +96,8 @@ fn look_at_count<B: Keeper>(
     alloc: Global,
     keeper: &mut B,
 ) -> Result<Option<RegisterAnswer>, IssueFault>
-    ensures told { Told (B.rows keeper.old) (B.rows keeper.new) (λ before after. (after ≡ before) × IfOk result (λ o. o ≡ full_answer (length (rows_of RegisterTable 0 before)))) }
+    ensures told { Told (B.rows keeper.old) (B.rows keeper.new) (λ before after. (after ≡ before) × IfOk result (λ o. o
+        ≡ full_answer (length (rows_of RegisterTable 0 before)))) }
     ensures answered { (reference bytes day : List ℕ) → IfOk result (λ o. IfSome o (RegisterCause reference bytes day)) }
     ensures cause { HasCause (B.faults keeper.old) (B.faults keeper.new) result }
 {
@@ -112,7 +114,8 @@ fn look<B: Keeper>(
     request: &[u8],
     keeper: &mut B,
 ) -> Result<Option<RegisterAnswer>, IssueFault>
-    ensures told { Told (B.rows keeper.old) (B.rows keeper.new) (λ before after. (after ≡ before) × IfOk result (λ o. o ≡ looked before reference.now request.now)) }
+    ensures told { Told (B.rows keeper.old) (B.rows keeper.new) (λ before after. (after ≡ before) × IfOk result (λ o. o
+        ≡ looked before reference.now request.now)) }
     ensures answered { (day : List ℕ) → IfOk result (λ o. IfSome o (RegisterCause reference.now request.now day)) }
     ensures cause { HasCause (B.faults keeper.old) (B.faults keeper.new) result }
 {
@@ -150,7 +153,8 @@ fn enter<B: Keeper>(
     keeper: &mut B,
 ) -> Result<RegisterAnswer, IssueFault>
     requires { length request.now ≤ 65535 }
-    ensures told { Told (B.rows keeper.old) (B.rows keeper.new) (λ before after. MayAdd before (row_of reference.now request.now day) → Enters before after (row_of reference.now request.now day) result) }
+    ensures told { Told (B.rows keeper.old) (B.rows keeper.new) (λ before after. MayAdd before (row_of reference.now
+        request.now day) → Enters before after (row_of reference.now request.now day) result) }
     ensures answered { IfOk result (RegisterCause reference.now request.now day) }
     ensures cause { HasCause (B.faults keeper.old) (B.faults keeper.new) result }
 {
@@ -169,8 +173,9 @@ fn enter<B: Keeper>(
 /// Serves one line of the register: gives the reference to the request, which has at most 65,535 bytes, on this day.
 ///
 /// The same request again is `Kept` with its first day. Other bytes under the reference break rule 2, `Used`; then
-/// 100,000 entries break rule 12, `Full`. A fault of the keeper comes only where its count rose. After a fault or want
-/// of memory the row may stand, where the keeper kept it; after a refusal none was added.
+/// 100,000 entries break rule 12, `Full`. A fault of the keeper comes only where its count rose, and without one the
+/// count is as before. After a fault or want of memory the row may stand, where the keeper kept it; after a refusal none
+/// was added.
 pub fn register<B: Keeper>(
     alloc: Global,
     day: [u8; 6],
@@ -181,9 +186,13 @@ pub fn register<B: Keeper>(
     requires { length request.now ≤ 65535 }
     // Where the rows are told after the call, it was one delivery, with the rows before it as the ledger.
     ensures delivery { Told (B.rows keeper.old) (B.rows keeper.new) (λ before after. Serves before after
-        (record { reference = reference.now; bytes = request.now; day = day }) (B.faults keeper.old, B.faults keeper.new) (outcome_of result)) }
-    // Whether the keeper tells its rows or not, the day that is given is today's, and any other answer is what a row of the
-    // reference says, or `Full`.
+        (record { reference = reference.now; bytes = request.now; day = day }) (
+          B.faults keeper.old,
+          B.faults
+              keeper.new,
+        ) (outcome_of result)) }
+    // Whether the keeper tells its rows or not, the day that is given is today's, and any other answer is what some row of
+    // the reference says, or `Full`.
     ensures answered { IfOk result (RegisterCause reference.now request.now day) }
     ensures cause { HasCause (B.faults keeper.old) (B.faults keeper.new) result }
 {

@@ -91,7 +91,8 @@ fn is_later(from: Option<u32>, other: Option<u32>) -> bool
 
 // The row, where it is settled and newer than the one that follows.
 fn newer_row<'a>(row: &'a Row, other: Option<&'a Row>) -> Option<&'a Row>
-    ensures { signer_at (option_copied result) ≡ newest_with (signer_of row.now.reference row.now.part) (signer_at (option_copied other.entry)) }
+    ensures { signer_at (option_copied result) ≡ newest_with (signer_of row.now.reference row.now.part) (signer_at
+        (option_copied other.entry)) }
 {
     let Some(best) = other else {
         return Some(row);

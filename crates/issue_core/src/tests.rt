@@ -1,7 +1,8 @@
 // What no clause says: that the calls find memory, and the answers of worked examples.
 use crate::{IssueFault, RegisterAnswer, Rule, register};
 use holder_reference::{Reference, read_reference};
-use keeper::{FadingKeeper, KeeperPlan, MemoryKeeper, Moment};
+use keeper::doubles::FadingKeeper;
+use keeper::{KeeperPlan, MemoryKeeper, Moment};
 use std::process::Abort;
 
 fn reference(rt: &impl Abort) -> Reference {

@@ -1,7 +1,6 @@
-use Rattle.std.proofs.Common.{refl}
 use Rattle.issue_core.specs.Issuing.{issuing, is_signed}
-use Rattle.issue_core.proofs.IssueStories.{due_face}
+use Rattle.ledger.proofs.DeskLaws.{answers_due}
 use Rattle.issue_core.proofs.issue_laws.issued_answers_are_due.Goals as goal
 
 pub returns : goal.returns
-returns c = λ says earlier d now answered. due_face issuing (is_signed says) earlier d now d.outcome refl answered now.told
+returns c = λ says. answers_due issuing (is_signed says)

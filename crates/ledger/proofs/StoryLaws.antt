@@ -2,8 +2,8 @@
 use Rattle.std.proofs.Common.{◌≡◌, ℕ, List, [], ◌∷◌, ◌++◌, Option, Some, None, Bool, true, false, refl, sym, ◌∙◌, ap, subst, append_assoc}
 use Rattle.std.specs.Prelude.{IfSome}
 use Rattle.std.proofs.lemmas.List.{append-nil}
-use Rattle.issue_core.specs.Ledger.{Desk, Outcome, Issued, Kept, Refused, Faulted, NoMemory, Delivery, Entry, is_open, left_entry, entry_of, entries, kept_for, IsUnused}
-use Rattle.issue_core.specs.Story.{Adds, Tells, Decides, Story, NoTwo}
+use Rattle.ledger.specs.Ledger.{Desk, Outcome, Issued, Kept, Refused, Faulted, NoMemory, Delivery, Entry, is_open, left_entry, entry_of, entries, kept_for, IsUnused}
+use Rattle.ledger.specs.Story.{Adds, Tells, Decides, Story, NoTwo}
 
 module _ {Case Query Face Product Reason Fault : Type 0} (D : Desk Case Query Face Product Reason Fault) (is_signed : Case → Product → Bool) where
   -- one more delivery

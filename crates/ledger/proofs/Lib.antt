@@ -1,0 +1,3 @@
+pub mod StoryLaws
+pub mod StruckLaws
+pub mod DeskLaws

@@ -1,0 +1,4 @@
+pub mod Ledger
+pub mod Story
+pub mod Struck
+pub mod Laws
