@@ -1,5 +1,5 @@
 -- Causes of faults, and what stays true of a provider, over the steps of a call.
-use Rattle.std.proofs.Common.{◌≡◌, ℕ, List, ◌≤◌, Bool, arith, refl, sym, ◌∙◌, subst}
+use Rattle.std.proofs.Common.{◌≡◌, ℕ, List, Bool, arith, refl, sym, ◌∙◌, subst}
 use Rattle.std.specs.Prelude.{◌≢◌, Result, Ok, Err, IfErr}
 use Rattle.signature_provider.specs.Provider.{Says, Holds, Signed}
 use Rattle.issue_core.specs.declared.serving.IssueFault.{IssueFault}

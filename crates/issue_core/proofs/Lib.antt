@@ -13,7 +13,6 @@ pub mod LookedBy
 pub mod IssuedLists
 pub mod ListsOwe
 pub mod IssueStories
-pub mod Quiet
 pub mod Caused
 pub mod Answering
 pub mod Owing

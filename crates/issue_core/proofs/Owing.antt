@@ -1,6 +1,6 @@
 -- What a call owes whatever keeper it has, over its steps.
-use Rattle.std.proofs.Common.{◌≡◌, ◌⊎◌, ℕ, List, [], ◌∷◌, Option, Some, None, Bool, true, false, cond, refl, sym, ◌∙◌, ap, subst, inl, inr}
-use Rattle.std.specs.Prelude.{Result, Ok, Err, IfOk, IfSome, IfErr, is_none, nat_le}
+use Rattle.std.proofs.Common.{◌≡◌, ℕ, List, [], ◌∷◌, Option, Some, None, Bool, true, false, cond, refl, sym, ◌∙◌, subst, inl, inr}
+use Rattle.std.specs.Prelude.{Result, Ok, Err, IfOk, IfErr}
 use Rattle.std.specs.Str.{bytes_eq}
 use Rattle.eac_base.specs.Answers.{Answers}
 use Rattle.signature_provider.specs.Provider.{Says, Holds, Signed, public_key}
@@ -24,12 +24,12 @@ use Rattle.issue_core.specs.declared.issuing.Call.{Call}
 use Rattle.issue_core.specs.Rules.{Case, Signer}
 use Rattle.issue_core.specs.Looks.{KeeperCause, KeeperCaused}
 use Rattle.issue_core.specs.SeenRules.{first_seen, verdict_rule}
-use Rattle.issue_core.specs.Issues.{IsCaseOf, IssueCause, MakeCause, MakeCaused, VerdictCause, VerdictCaused, StaysTrue, IsMade, unreadable_answer, kept_answer}
-use Rattle.issue_core.specs.AnswerCauses.{HasSeen, IsCleared, MayMake, Answered, StandsAs, AddingSays}
-use Rattle.issue_core.specs.Signed.{Pair, SignsMore, Unmade}
-use Rattle.issue_core.specs.ProviderCalls.{Standing, standing, MayRefuseUnasked, EndsUnasked, EndsByVerdicts, EndsUnsigned, EndsSigned, Unasked, AskedVerdicts, due_pair, SignsAtMost, AskedToSign, Asked, CallsProvider, MissesKey, Owes, OwesAsking, OwesAll}
+use Rattle.issue_core.specs.Issues.{IsCaseOf, IssueCause, MakeCause, MakeCaused, VerdictCause, VerdictCaused, StaysTrue, unreadable_answer, kept_answer}
+use Rattle.issue_core.specs.AnswerCauses.{HasSeen, IsCleared, MayMake, Answered, AddingSays}
+use Rattle.issue_core.specs.Signed.{SignsMore, Unmade}
+use Rattle.issue_core.specs.ProviderCalls.{Standing, standing, MayRefuseUnasked, EndsUnasked, EndsByVerdicts, EndsUnsigned, EndsSigned, AskedVerdicts, due_pair, SignsAtMost, AskedToSign, MissesKey, OwesAsking, OwesAll}
 use Rattle.issue_core.proofs.Answering.{IsOfRows, IsOfVerdicts, given, first_is_of_rows, verdict_is_of_verdicts, answered_unread}
-use Rattle.issue_core.proofs.Caused.{cause_unseen, cause_still, cause_unasked, cause_asked, cause_unmade, cause_made, stays_asked}
+use Rattle.issue_core.proofs.Caused.{cause_unseen, cause_still, cause_unasked, cause_unmade, cause_made, stays_asked}
 
 stays_same : (s : Standing) → StaysTrue s.says s.says s.holds s.holds s.signed s.signed
 stays_same s = stays_asked s.says s.says s.holds s.holds s.signed s.signed refl refl refl

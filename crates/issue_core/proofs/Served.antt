@@ -3,7 +3,7 @@ use Rattle.std.proofs.Common.{◌≡◌, ◌⊎◌, inl, inr, ℕ, List, [], ◌
 use Rattle.std.proofs.lemmas.List.{append-nil}
 use Rattle.std.specs.Prelude.{Result, Ok, Err, IfSome, IfErr, option_map}
 use Rattle.eac_base.specs.Causes.{Rose}
-use Rattle.signature_provider.specs.Provider.{PublicKey, Says, Holds, Signed, public_key}
+use Rattle.signature_provider.specs.Provider.{Says, Holds, Signed, public_key}
 use Rattle.cvc_grammar.specs.declared.request.Request.{Request}
 use Rattle.policy_limits.specs.declared.registration.Registration.{Registration}
 use Rattle.keeper.specs.declared.rows.Row.{Row}
@@ -19,9 +19,8 @@ use Rattle.issue_core.specs.declared.issuing.Answer.{Answer}
 use Rattle.issue_core.specs.declared.issuing.Answer.TheVariants as answer
 use Rattle.ledger.specs.Ledger.{Outcome, Issued, Kept, Refused, Faulted, NoMemory, MayLeave, IsUnused}
 use Rattle.ledger.specs.Story.{Adds, Tells}
-use Rattle.cvc_grammar.specs.declared.certificate.CertBody.{CertBody}
 use Rattle.issue_core.specs.Due.{due_body}
-use Rattle.issue_core.specs.Asked.{request_of, cert_of, cert_message, number_in, body_in}
+use Rattle.issue_core.specs.Asked.{cert_of, cert_message, number_in, body_in}
 use Rattle.issue_core.specs.Rules.{Case, Signer}
 use Rattle.issue_core.specs.Issuing.{issuing, is_signed, signed_in, signed_as, Fault, KeeperFailed, ProviderFailed, KeyMissing, IssueEntries}
 use Rattle.issue_core.specs.IssueRows.{entries_at, row_for, left_row, settled_of, AreReadable, ReadablePart, IsReadable, IsSettled}

@@ -12,7 +12,7 @@ use Rattle.issue_core.specs.Rules.{Case, Signer, first_rule}
 use Rattle.issue_core.specs.Due.{due}
 use Rattle.issue_core.specs.Issuing.{issuing, is_signed, Fault, KeeperFailed, ProviderFailed, KeyMissing}
 use Rattle.issue_core.specs.IssueRows.{entries_at, AreReadable, left_row}
-use Rattle.issue_core.specs.Issues.{delivery, is_held, signer_in, NamesKey, Serves}
+use Rattle.issue_core.specs.Issues.{delivery, is_held, signer_in, NamesKey}
 use Rattle.issue_core.specs.declared.rule.Rule.{Rule}
 use Rattle.issue_core.specs.declared.serving.IssueFault.{IssueFault}
 use Rattle.issue_core.specs.declared.serving.IssueFault.TheVariants as fault

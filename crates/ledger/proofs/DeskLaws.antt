@@ -1,5 +1,5 @@
 -- The laws of a desk's stories, as specs/ states them.
-use Rattle.std.proofs.Common.{◌≡◌, [], Option, Some, None, Bool, List, false, refl, sym, ap, ◌∙◌, subst}
+use Rattle.std.proofs.Common.{◌≡◌, [], Option, Some, Bool, List, false, refl, sym, ap, ◌∙◌, subst}
 use Rattle.std.specs.Prelude.{IfSome, option_map}
 use Rattle.ledger.specs.Ledger.{Desk, Outcome, Issued, Kept, Refused, Faulted, NoMemory, Delivery, Entry, faces, kept_for, is_open}
 use Rattle.ledger.specs.Story.{Adds, Tells, Decides, answer_due}

@@ -1,5 +1,5 @@
 -- The laws of a desk's stories (this project's own).
-use Rattle.std.specs.Prelude.{◌≡◌, List, [], ◌∷◌, ◌++◌, Option, Some, None, Bool, true, false, option_map}
+use Rattle.std.specs.Prelude.{◌≡◌, List, [], ◌∷◌, ◌++◌, Some, None, Bool, false, option_map}
 use Rattle.ledger.specs.Ledger.{Desk, Kept, Delivery, Entry, entries, entry_of, faces, kept_for, is_open}
 use Rattle.ledger.specs.Story.{Decides, Story, NoTwo, answer_due}
 use Rattle.ledger.specs.Struck.{struck, AreAlike, AgreeIn, InPlaces, bare}

@@ -2,7 +2,6 @@ use Rattle.std.proofs.Common.{refl, inl}
 use Rattle.issue_core.proofs.Answering.{answered_entered}
 use Rattle.issue_core.proofs.Owing.{owes_wanting, owes_unmade, owes_entered, adding_ends}
 use Rattle.issue_core.specs.declared.serving.IssueFault.TheVariants as fault
-use Rattle.signature_provider.specs.Provider.{public_key}
 use Rattle.issue_core.proofs.Served.{keeper_rose}
 use Rattle.issue_core.proofs.ServedTold.{told_entered, told_unmade}
 use Rattle.issue_core.proofs.Storable.{row_storable}
