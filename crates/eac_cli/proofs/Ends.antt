@@ -1,38 +1,87 @@
 -- The ends of a run, by its status.
-use Rattle.std.proofs.Common.{◌≡◌, ℕ, ◌≤◌, List, [], ◌++◌, length, Some, None, refl, sym, ap, ◌∙◌, subst, arith, inl, inr, append-nil, length-append}
-use Rattle.std.specs.Prelude.{IfSome}
+use Rattle.std.proofs.Common.{◌≡◌, ℕ, ◌≤◌, ◌<◌, List, [], ◌++◌, length, Some, None, refl, sym, ap, ◌∙◌, subst, arith, inl, inr, append-nil, length-append}
+use Rattle.std.specs.Prelude.{IfSome, ◌↔◌, ◌+◌}
 use Rattle.std.specs.declared.option.Option.{Option}
-use Rattle.std.specs.Io.KnownBytes.{Consumes}
+use Rattle.std.specs.Io.KnownBytes.{Consumes, IsAtEnd}
 use Rattle.eac_base.specs.Causes.{Rose}
-use Rattle.keeper.specs.declared.rows.Row.{Row}
-use Rattle.policy_limits.specs.Roster.{Roster}
+use Rattle.eac_base.specs.Streaming.{TurnsAtMost}
+use Rattle.policy_limits.specs.Setup.{SetupValue}
 use Rattle.eac_cli.specs.declared.event.EventLine.{EventLine}
 use Rattle.eac_cli.specs.declared.running.Stop.{Stop}
 use Rattle.eac_cli.specs.declared.running.Stop.TheVariants.{WriteFault as StopWriteFault, NoMemory as StopNoMemory}
 use Rattle.eac_cli.specs.declared.tool.Status.{Status}
 use Rattle.eac_cli.specs.declared.tool.Status.TheVariants.{Done, Usage, ScriptFault, TooLong, ReadFault, WriteFault, NoMemory}
-use Rattle.eac_cli.specs.Objects.{Objects, ReadFailed, WriteFailed}
+use Rattle.eac_cli.specs.Objects.{RunObjects, Objects, ReadFailed, WriteFailed}
 use Rattle.eac_cli.specs.Script.{IsScript, IsFault}
-use Rattle.eac_cli.specs.Top.{Shows, IsShown, WasRead, Whole, Stopped, Claim, IsComplete, TellsFault, TellsLength, RunCall, ShowCall, IsRunStatus, status_of}
+use Rattle.eac_cli.specs.Top.{Shows, IsShown, WasRead, Ran, Whole, Stopped, Claim, IsComplete, TellsFault, TellsLength, RunCall, ShowCall, WereRead, RoseFor, RunsNothing, IsRunStatus, status_of, most_input}
 use Rattle.eac_cli.proofs.Orders.{no_fault, fault_is_one}
 
-module _ (rows rows' : Option (List Row)) (f f' : ℕ) (s t left : Option (List ℕ)) (bytes : List ℕ) (done : ℕ) where
-  ended : (stop : Option Stop) (setup : Roster) (lines : List EventLine) → WasRead left bytes → IsScript bytes setup lines → (stop ≡ None → Whole rows rows' f f' s t lines done) → IfSome stop (λ x. Stopped rows rows' f f' s t x lines done) → Claim rows rows' f f' s t left (status_of stop) done bytes
-  ended None setup lines all is whole some = (all, setup, lines, is, whole refl)
-  ended (Some StopWriteFault) setup lines all is whole some = (all, setup, lines, is, some)
-  ended (Some StopNoMemory) setup lines all is whole some = inr (all, setup, lines, is, some)
+module _ (o n : RunObjects) (left : Option (List ℕ)) (bytes : List ℕ) (done : ℕ) where
+  ended : (stop : Option Stop) (setup : SetupValue) (lines : List EventLine) → WasRead left bytes → IsScript bytes setup lines → (stop ≡ None → Whole o n lines done) → IfSome stop (λ x. Stopped o n x lines done) → Claim o n left (status_of stop) done bytes
+  ended None setup lines all is whole some = record { read = all; setup = setup; lines = lines; script = is; did = whole refl }
+  ended (Some StopWriteFault) setup lines all is whole some = record { read = all; setup = setup; lines = lines; script = is; did = some }
+  ended (Some StopNoMemory) setup lines all is whole some = inr (record { read = all; setup = setup; lines = lines; script = is; did = some })
 
-  pub run_claim : (stop : Option Stop) (status : Status) (setup : Roster) (lines slice : List EventLine) → status ≡ status_of stop → slice ≡ lines → WasRead left bytes → IsScript bytes setup lines → (stop ≡ None → Whole rows rows' f f' s t slice done) → IfSome stop (λ x. Stopped rows rows' f f' s t x slice done) → Claim rows rows' f f' s t left status done bytes
+  pub run_claim : (stop : Option Stop) (status : Status) (setup : SetupValue) (lines slice : List EventLine) → status ≡ status_of stop → slice ≡ lines → WasRead left bytes → IsScript bytes setup lines → (stop ≡ None → Whole o n slice done) → IfSome stop (λ x. Stopped o n x slice done) → Claim o n left status done bytes
   run_claim stop status setup lines slice e same all is whole some =
-      subst (λ x. Claim rows rows' f f' s t left x done bytes) (sym e) (ended stop setup slice all (subst (IsScript bytes setup) (sym same) is) whole some)
+      subst (λ x. Claim o n left x done bytes) (sym e) (ended stop setup slice all (subst (IsScript bytes setup) (sym same) is) whole some)
 
-caused : (stop : Option Stop) (before now : ℕ) → (stop ≡ Some StopWriteFault → Rose before now) → IsRunStatus (status_of stop) before now
-caused None before now h = tt
-caused (Some StopWriteFault) before now h = h refl
-caused (Some StopNoMemory) before now h = tt
+module _ (o n : RunObjects) (lines : List EventLine) (done : ℕ) where
+  stop_cause : (stop : Option Stop) → (stop ≡ None → Whole o n lines done) → IfSome stop (λ x. Stopped o n x lines done) → IsRunStatus (status_of stop) o.lost n.lost
+  stop_cause None whole some = (whole refl).quiet
+  stop_cause (Some StopWriteFault) whole some = some.sent.3
+  stop_cause (Some StopNoMemory) whole some = some.sent.2
 
-pub run_cause : (stop : Option Stop) (status : Status) (before now : ℕ) → status ≡ status_of stop → (stop ≡ Some StopWriteFault → Rose before now) → IsRunStatus status before now
-run_cause stop status before now e h = subst (λ x. IsRunStatus x before now) (sym e) (caused stop before now h)
+  pub run_cause : (stop : Option Stop) (status : Status) → status ≡ status_of stop → (stop ≡ None → Whole o n lines done) → IfSome stop (λ x. Stopped o n x lines done) → IsRunStatus status o.lost n.lost
+  run_cause stop status e whole some = subst (λ x. IsRunStatus x o.lost n.lost) (sym e) (stop_cause stop whole some)
+
+-- ---- counts
+
+differ : (status told : Status) → (status ≡ told → ⊥) → (before now : ℕ) → now ≡ before → RoseFor told status before now
+differ status told other before now same = (λ e. absurd (other e), λ no. same)
+
+pub told_rose : (told : Status) (before now : ℕ) → Rose before now → RoseFor told told before now
+told_rose told before now rose = (λ e. rose, λ no. absurd (no refl))
+
+-- the sink's count after a run of bytes
+pub run_writes : (status : Status) (before now : ℕ) → IsRunStatus status before now → RoseFor WriteFault status before now
+run_writes Done before now h = differ Done WriteFault (λ e. cc) before now h
+run_writes (ScriptFault line rule) before now h = differ (ScriptFault line rule) WriteFault (λ e. cc) before now h
+run_writes NoMemory before now h = differ NoMemory WriteFault (λ e. cc) before now h
+run_writes WriteFault before now h = told_rose WriteFault before now h
+run_writes Usage before now h = absurd h
+run_writes TooLong before now h = absurd h
+run_writes ReadFault before now h = absurd h
+
+-- the source's count, where all was read
+pub run_reads : (status : Status) (lost lost' : ℕ) (before now : ℕ) → IsRunStatus status lost lost' → now ≡ before → RoseFor ReadFault status before now
+run_reads Done lost lost' before now h same = differ Done ReadFault (λ e. cc) before now same
+run_reads (ScriptFault line rule) lost lost' before now h same = differ (ScriptFault line rule) ReadFault (λ e. cc) before now same
+run_reads NoMemory lost lost' before now h same = differ NoMemory ReadFault (λ e. cc) before now same
+run_reads WriteFault lost lost' before now h same = differ WriteFault ReadFault (λ e. cc) before now same
+run_reads Usage lost lost' before now h same = absurd h
+run_reads TooLong lost lost' before now h same = absurd h
+run_reads ReadFault lost lost' before now h same = absurd h
+
+-- a run that ended with this status ran something
+pub no_nothing : (stop : Option Stop) (status : Status) (A : Type 0) → status ≡ status_of stop → RunsNothing status → A
+no_nothing stop status A e h = absurd (never stop (subst RunsNothing e h))
+  where
+    never : (stop : Option Stop) → RunsNothing (status_of stop) → ⊥
+    never None h = h
+    never (Some StopWriteFault) h = h
+    never (Some StopNoMemory) h = h
+
+-- ---- what was read
+
+module _ (left left' : Option (List ℕ)) (reads reads' : Option ℕ) where
+  -- all was read
+  pub all_so : (P : List ℕ → Type 0) (bytes slice : List ℕ) → slice ≡ bytes → Consumes left left' bytes × IsAtEnd left' × (length bytes ≤ most_input) × TurnsAtMost reads reads' (length bytes + 1) → P slice → (b : List ℕ) × WereRead left left' reads reads' b × P b
+  all_so P bytes slice same read p = (bytes, record { taken = read.0; most = omega (arith, read.2); turns = read.3 }, subst P same p)
+
+  -- a front was read
+  pub front_so : (P : List ℕ → Type 0) (Q : Type 0) → ((b : List ℕ) → (Q ↔ (most_input < length b)) → P b) → (b : List ℕ) × Consumes left left' b × (length b ≤ most_input + 1) × (Q ↔ (most_input < length b)) × TurnsAtMost reads reads' (length b + 1) → (b : List ℕ) × WereRead left left' reads reads' b × P b
+  front_so P Q p read = (read.0, record { taken = read.1; most = read.2; turns = read.4 }, p read.0 read.3)
 
 -- ---- what has to come
 
@@ -42,51 +91,73 @@ all_read all bytes rest e none = sym (e ∙ ap (λ (l : List ℕ). bytes ++ l) n
 no_longer : (all bytes rest : List ℕ) → all ≡ bytes ++ rest → length bytes ≤ length all
 no_longer all bytes rest e = omega (arith, ap length e, length-append bytes rest)
 
-module _ (rows rows' : Option (List Row)) (f f' : ℕ) (s t : Option (List ℕ)) (all bytes rest : List ℕ) (done : ℕ) (e : all ≡ bytes ++ rest) (R W : Type 0) where
-  complete_at : (status : Status) → Claim rows rows' f f' s t (Some rest) status done bytes → (status ≡ ReadFault → R) → (status ≡ WriteFault → W) → IsComplete all R W status
+module _ (o n : RunObjects) (all bytes rest : List ℕ) (done : ℕ) (e : all ≡ bytes ++ rest) (R W : Type 0) where
+  -- what was read within the limit is all
+  within_all : WasRead (Some rest) bytes → bytes ≡ all
+  within_all read = all_read all bytes rest e read.0
+
+  script_all : (How : List EventLine → Type 0) → (r : Ran (Some rest) bytes How) → IsScript all r.setup r.lines
+  script_all How r = subst (λ b. IsScript b r.setup r.lines) (within_all r.read) r.script
+
+  fault_all : (line rule : ℕ) → WasRead (Some rest) bytes → IsFault bytes line rule → IsFault all line rule
+  fault_all line rule read f = subst (λ b. IsFault b line rule) (within_all read) f
+
+  not_long : WasRead (Some rest) bytes → most_input < length all → ⊥
+  not_long read long = omega (arith, read.1, long, ap length (within_all read))
+
+  complete_at : (status : Status) → Claim o n (Some rest) status done bytes → (status ≡ ReadFault → R) → (status ≡ WriteFault → W) → IsComplete all R W status
   complete_at Done c read write setup lines is within no_read no_write = inl refl
   complete_at Usage c read write setup lines is within no_read no_write = absurd c
-  complete_at (ScriptFault line rule) c read write setup lines is within no_read no_write = absurd (no_fault all setup lines line rule is (subst (λ b. IsFault b line rule) (all_read all bytes rest e c.0.0) c.1))
+  complete_at (ScriptFault line rule) c read write setup lines is within no_read no_write = absurd (no_fault all setup lines line rule is (fault_all line rule c.0 c.1))
   complete_at TooLong c read write setup lines is within no_read no_write = absurd (omega (arith, c.0, within, no_longer all bytes rest e))
   complete_at ReadFault c read write setup lines is within no_read no_write = absurd (no_read (read refl))
   complete_at WriteFault c read write setup lines is within no_read no_write = absurd (no_write (write refl))
   complete_at NoMemory c read write setup lines is within no_read no_write = inr refl
 
-  fault_at : (status : Status) → Claim rows rows' f f' s t (Some rest) status done bytes → (status ≡ ReadFault → R) → TellsFault all R status
-  fault_at Done c read line rule is within no_read = absurd (no_fault all c.1 c.2 line rule (subst (λ b. IsScript b c.1 c.2) (all_read all bytes rest e c.0.0) c.3) is)
+  fault_at : (status : Status) → Claim o n (Some rest) status done bytes → (status ≡ ReadFault → R) → TellsFault all R status
+  fault_at Done c read line rule is within no_read = absurd (no_fault all c.setup c.lines line rule (script_all _ c) is)
   fault_at Usage c read line rule is within no_read = absurd c
   fault_at (ScriptFault l r) c read line rule is within no_read =
-      let one = fault_is_one all l r line rule (subst (λ b. IsFault b l r) (all_read all bytes rest e c.0.0) c.1) is in
+      let one = fault_is_one all l r line rule (fault_all l r c.0 c.1) is in
       inl (λ i. ScriptFault (one.0 i) (one.1 i))
   fault_at TooLong c read line rule is within no_read = absurd (omega (arith, c.0, within, no_longer all bytes rest e))
   fault_at ReadFault c read line rule is within no_read = absurd (no_read (read refl))
-  fault_at WriteFault c read line rule is within no_read = absurd (no_fault all c.1 c.2 line rule (subst (λ b. IsScript b c.1 c.2) (all_read all bytes rest e c.0.0) c.3) is)
+  fault_at WriteFault c read line rule is within no_read = absurd (no_fault all c.setup c.lines line rule (script_all _ c) is)
   fault_at NoMemory c read line rule is within no_read = inr refl
 
-  long_at : (status : Status) → Claim rows rows' f f' s t (Some rest) status done bytes → (status ≡ ReadFault → R) → TellsLength all R status
-  long_at Done c read long no_read = absurd (omega (arith, c.0.1, long, ap length (all_read all bytes rest e c.0.0)))
+  long_at : (status : Status) → Claim o n (Some rest) status done bytes → (status ≡ ReadFault → R) → TellsLength all R status
+  long_at Done c read long no_read = absurd (not_long c.read long)
   long_at Usage c read long no_read = absurd c
-  long_at (ScriptFault l r) c read long no_read = absurd (omega (arith, c.0.1, long, ap length (all_read all bytes rest e c.0.0)))
+  long_at (ScriptFault l r) c read long no_read = absurd (not_long c.0 long)
   long_at TooLong c read long no_read = inl refl
   long_at ReadFault c read long no_read = absurd (no_read (read refl))
-  long_at WriteFault c read long no_read = absurd (omega (arith, c.0.1, long, ap length (all_read all bytes rest e c.0.0)))
+  long_at WriteFault c read long no_read = absurd (not_long c.read long)
   long_at NoMemory c read long no_read = inr refl
 
-module _ (rows rows' : Option (List Row)) (f f' : ℕ) (s t : Option (List ℕ)) (status : Status) (done : ℕ) (R W : Type 0) where
-  pub complete : (left left' : Option (List ℕ)) → (bytes : List ℕ) × Consumes left left' bytes × Claim rows rows' f f' s t left' status done bytes → (status ≡ ReadFault → R) → (status ≡ WriteFault → W) → IfSome left (λ all. IsComplete all R W status)
-  complete None left' h read write = tt
-  complete (Some all) None h read write = absurd h.1
-  complete (Some all) (Some rest) h read write = complete_at rows rows' f f' s t all h.0 rest done h.1 R W status h.2 read write
+module _ (before after : Objects) (status : Status) (done : ℕ) where
+  complete : (left left' : Option (List ℕ)) (reads reads' : Option ℕ) → (bytes : List ℕ) × WereRead left left' reads reads' bytes × Claim before.run after.run left' status done bytes → (status ≡ ReadFault → ReadFailed before after) → (status ≡ WriteFault → WriteFailed before.run after.run) → IfSome left (λ all. IsComplete all (ReadFailed before after) (WriteFailed before.run after.run) status)
+  complete None left' reads reads' h read write = tt
+  complete (Some all) None reads reads' h read write = absurd h.1.taken
+  complete (Some all) (Some rest) reads reads' h read write = complete_at before.run after.run all h.0 rest done h.1.taken _ _ status h.2 read write
 
-  pub faulty : (left left' : Option (List ℕ)) → (bytes : List ℕ) × Consumes left left' bytes × Claim rows rows' f f' s t left' status done bytes → (status ≡ ReadFault → R) → IfSome left (λ all. TellsFault all R status)
-  faulty None left' h read = tt
-  faulty (Some all) None h read = absurd h.1
-  faulty (Some all) (Some rest) h read = fault_at rows rows' f f' s t all h.0 rest done h.1 R W status h.2 read
+  faulty : (left left' : Option (List ℕ)) (reads reads' : Option ℕ) → (bytes : List ℕ) × WereRead left left' reads reads' bytes × Claim before.run after.run left' status done bytes → (status ≡ ReadFault → ReadFailed before after) → IfSome left (λ all. TellsFault all (ReadFailed before after) status)
+  faulty None left' reads reads' h read = tt
+  faulty (Some all) None reads reads' h read = absurd h.1.taken
+  faulty (Some all) (Some rest) reads reads' h read = fault_at before.run after.run all h.0 rest done h.1.taken _ (Unit {0}) status h.2 read
 
-  pub too_long : (left left' : Option (List ℕ)) → (bytes : List ℕ) × Consumes left left' bytes × Claim rows rows' f f' s t left' status done bytes → (status ≡ ReadFault → R) → IfSome left (λ all. TellsLength all R status)
-  too_long None left' h read = tt
-  too_long (Some all) None h read = absurd h.1
-  too_long (Some all) (Some rest) h read = long_at rows rows' f f' s t all h.0 rest done h.1 R W status h.2 read
+  too_long : (left left' : Option (List ℕ)) (reads reads' : Option ℕ) → (bytes : List ℕ) × WereRead left left' reads reads' bytes × Claim before.run after.run left' status done bytes → (status ≡ ReadFault → ReadFailed before after) → IfSome left (λ all. TellsLength all (ReadFailed before after) status)
+  too_long None left' reads reads' h read = tt
+  too_long (Some all) None reads reads' h read = absurd h.1.taken
+  too_long (Some all) (Some rest) reads reads' h read = long_at before.run after.run all h.0 rest done h.1.taken _ (Unit {0}) status h.2 read
+
+  -- a whole call of `run`
+  pub run_call : (bytes : List ℕ) × WereRead before.left after.left before.reads after.reads bytes × Claim before.run after.run after.left status done bytes → RoseFor ReadFault status before.read_faults after.read_faults → RoseFor WriteFault status before.run.lost after.run.lost → RunCall before after status done
+  run_call claim reads writes = let read = reads.0 in let write = writes.0 in record {
+    claim = claim;
+    complete = complete before.left after.left before.reads after.reads claim read write;
+    faulty = faulty before.left after.left before.reads after.reads claim read;
+    too_long = too_long before.left after.left before.reads after.reads claim read;
+  }
 
 -- ---- what has to be shown
 
@@ -110,22 +181,22 @@ module _ (s t : Option (List ℕ)) (all bytes rest : List ℕ) (e : all ≡ byte
   length_at NoMemory c read long no_read = inr refl
 
 module _ (s t : Option (List ℕ)) (status : Status) (R W : Type 0) where
-  pub shown : (left left' : Option (List ℕ)) → (bytes : List ℕ) × Consumes left left' bytes × Shows s t left' status bytes → (status ≡ ReadFault → R) → (status ≡ WriteFault → W) → IfSome left (λ all. IsShown all R W status)
-  shown None left' h read write = tt
-  shown (Some all) None h read write = absurd h.1
-  shown (Some all) (Some rest) h read write = shown_at s t all h.0 rest h.1 R W status h.2 read write
+  pub shown : (left left' : Option (List ℕ)) (reads reads' : Option ℕ) → (bytes : List ℕ) × WereRead left left' reads reads' bytes × Shows s t left' status bytes → (status ≡ ReadFault → R) → (status ≡ WriteFault → W) → IfSome left (λ all. IsShown all R W status)
+  shown None left' reads reads' h read write = tt
+  shown (Some all) None reads reads' h read write = absurd h.1.taken
+  shown (Some all) (Some rest) reads reads' h read write = shown_at s t all h.0 rest h.1.taken R W status h.2 read write
 
-  pub shown_length : (left left' : Option (List ℕ)) → (bytes : List ℕ) × Consumes left left' bytes × Shows s t left' status bytes → (status ≡ ReadFault → R) → IfSome left (λ all. TellsLength all R status)
-  shown_length None left' h read = tt
-  shown_length (Some all) None h read = absurd h.1
-  shown_length (Some all) (Some rest) h read = length_at s t all h.0 rest h.1 R W status h.2 read
+  pub shown_length : (left left' : Option (List ℕ)) (reads reads' : Option ℕ) → (bytes : List ℕ) × WereRead left left' reads reads' bytes × Shows s t left' status bytes → (status ≡ ReadFault → R) → IfSome left (λ all. TellsLength all R status)
+  shown_length None left' reads reads' h read = tt
+  shown_length (Some all) None reads reads' h read = absurd h.1.taken
+  shown_length (Some all) (Some rest) reads reads' h read = length_at s t all h.0 rest h.1.taken R W status h.2 read
 
--- ---- a whole call
+-- ---- what is reported
 
-pub run_call : (before after : Objects) (status told : Status) (done count : ℕ) → told ≡ status → count ≡ done → (bytes : List ℕ) × Consumes before.left after.left bytes × Claim before.rows after.rows before.keeper_faults after.keeper_faults before.taken after.taken after.left status done bytes → IfSome before.left (λ bytes. IsComplete bytes (ReadFailed before after) (WriteFailed before after) status) → IfSome before.left (λ bytes. TellsFault bytes (ReadFailed before after) status) → IfSome before.left (λ bytes. TellsLength bytes (ReadFailed before after) status) → RunCall before after told count
-run_call before after status told done count same all claim complete faulty too_long =
-    subst (λ (x : Status × ℕ). RunCall before after x.0 x.1) (λ i. (sym same i, sym all i)) (record { claim = claim; complete = complete; faulty = faulty; too_long = too_long })
+pub run_reported : (before after : Objects) (status told : Status) (done count : ℕ) → told ≡ status → count ≡ done → RunCall before after status done → RunCall before after told count
+run_reported before after status told done count same all call =
+    subst (λ (x : Status × ℕ). RunCall before after x.0 x.1) (λ i. (sym same i, sym all i)) call
 
-pub show_call : (before after : Objects) (status told : Status) → told ≡ status → (bytes : List ℕ) × Consumes before.left after.left bytes × Shows before.taken after.taken after.left status bytes → IfSome before.left (λ bytes. IsShown bytes (ReadFailed before after) (WriteFailed before after) status) → IfSome before.left (λ bytes. TellsLength bytes (ReadFailed before after) status) → ShowCall before after told
+pub show_call : (before after : Objects) (status told : Status) → told ≡ status → (bytes : List ℕ) × WereRead before.left after.left before.reads after.reads bytes × Shows before.run.taken after.run.taken after.left status bytes → IfSome before.left (λ bytes. IsShown bytes (ReadFailed before after) (WriteFailed before.run after.run) status) → IfSome before.left (λ bytes. TellsLength bytes (ReadFailed before after) status) → ShowCall before after told
 show_call before after status told same shows shown too_long =
     subst (ShowCall before after) (sym same) (record { shows = shows; shown = shown; too_long = too_long })

@@ -1,7 +1,6 @@
 pub mod CommandWords
 pub mod Ends
 pub mod Fields
-pub mod Hexes
 pub mod MayRun
 pub mod Orders
 pub mod Reading

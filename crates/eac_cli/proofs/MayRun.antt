@@ -17,8 +17,8 @@ use Rattle.eac_cli.specs.declared.event.Event.TheVariants.{Day, Ask}
 use Rattle.eac_cli.specs.declared.event.EventLine.{EventLine}
 use Rattle.eac_cli.specs.declared.line_rule.LineRule.{LineRule}
 use Rattle.eac_cli.specs.declared.line_rule.LineRule.TheVariants.{Grammar, Limit}
-use Rattle.policy_limits.specs.Lines.{one_word, two_words}
-use Rattle.policy_limits.specs.Roster.{Roster}
+use Rattle.plain_text.specs.Lines.{one_word, two_words}
+use Rattle.policy_limits.specs.Setup.{SetupValue}
 use Rattle.policy_limits.specs.SetupLine.{is_setup_line}
 use Rattle.eac_cli.specs.LineGrammar.{day_of, day_said, ask_with, ask_of, ask_said, event_said, event_of}
 use Rattle.eac_cli.specs.Script.{Line, InSetup, Alone, line_of, events_of, later_day, IsInPlace, InOrder, IsScript}
@@ -92,5 +92,5 @@ all_allowed today [] o w = tt
 all_allowed today (line ∷ lines) o w = (allowed today line.event o.0 w.0, all_allowed (later_day today line.event) lines o.1 w.1)
 
 -- the events of a script may be run in their order, from a world without a day
-pub script_may_run : (bytes : List ℕ) (setup : Roster) (lines slice : List EventLine) → slice ≡ lines → IsScript bytes setup lines → MayRunAll None slice
+pub script_may_run : (bytes : List ℕ) (setup : SetupValue) (lines slice : List EventLine) → slice ≡ lines → IsScript bytes setup lines → MayRunAll None slice
 script_may_run bytes setup lines slice same is = subst (MayRunAll None) (sym same) (all_allowed None lines (in_order bytes setup lines is) (subst AllWithin (sym is.events_are) (all_within (numbered_lines bytes))))

@@ -7,9 +7,9 @@ use Rattle.std.specs.declared.result.Result.{Result}
 use Rattle.std.specs.Option.{option_map, option_or}
 use Rattle.eac_base.specs.Answers.{◌>>=◌}
 use Rattle.policy_limits.specs.SetupText.{with_line}
-use Rattle.policy_limits.specs.declared.setup_text.SetupRefusal.{SetupRefusal}
+use Rattle.policy_limits.specs.declared.setup_refusal.SetupRefusal.{SetupRefusal}
 use Rattle.eac_cli.specs.LineGrammar.{rule_number}
-use Rattle.policy_limits.specs.Roster.{Roster}
+use Rattle.policy_limits.specs.Setup.{SetupValue}
 use Rattle.eac_cli.specs.Script.{Line, Said, InSetup, Alone, lines_read, setup_lines, setup_of, events_of, day_after, order_rule, count_rule, rule_behind, rule_in_setup, broken, Unbroken, IsScript, IsFault, IsInPlace, InOrder}
 use Rattle.eac_cli.specs.ScriptLaws.{IsInTwoParts}
 use Rattle.eac_cli.specs.declared.event.Event.{Event}
@@ -42,7 +42,7 @@ order_after earlier ((n, Alone (Err rule)) ∷ lines) fine = absurd (never fine.
     never : Some rule ≡ None → ⊥
     never e = cc
 
-pub in_order : (bytes : List ℕ) (setup : Roster) (events : List EventLine) → IsScript bytes setup events → InOrder None events
+pub in_order : (bytes : List ℕ) (setup : SetupValue) (events : List EventLine) → IsScript bytes setup events → InOrder None events
 in_order bytes setup events s = subst (InOrder None) (sym s.events_are) (order_after [] (lines_read bytes) s.fine)
 
 -- ---- a script is short
@@ -77,7 +77,7 @@ count_after earlier ((n, Alone (Err rule)) ∷ lines) before fine = absurd (neve
     never : Some rule ≡ None → ⊥
     never e = cc
 
-pub short : (bytes : List ℕ) (setup : Roster) (events : List EventLine) → IsScript bytes setup events → length events ≤ 20000
+pub short : (bytes : List ℕ) (setup : SetupValue) (events : List EventLine) → IsScript bytes setup events → length events ≤ 20000
 short bytes setup events s = subst (λ es. length es ≤ 20000) (sym s.events_are) (omega (arith, count_after [] (lines_read bytes) (lit≤ tt) s.fine))
 
 -- ---- setup lines come first
@@ -123,15 +123,15 @@ two_parts earlier ((n, Alone (Err rule)) ∷ lines) none fine = absurd (never fi
     never : Some rule ≡ None → ⊥
     never e = cc
 
-pub in_two_parts : (bytes : List ℕ) (setup : Roster) (events : List EventLine) → IsScript bytes setup events → IsInTwoParts (lines_read bytes)
+pub in_two_parts : (bytes : List ℕ) (setup : SetupValue) (events : List EventLine) → IsScript bytes setup events → IsInTwoParts (lines_read bytes)
 in_two_parts bytes setup events s = two_parts [] (lines_read bytes) refl s.fine
 
 -- ---- a setup is one
 
-ok_same : (r : Result Roster SetupRefusal) (setup setup' : Roster) → r ≡ Ok setup → r ≡ Ok setup' → setup ≡ setup'
+ok_same : (r : Result SetupValue SetupRefusal) (setup setup' : SetupValue) → r ≡ Ok setup → r ≡ Ok setup' → setup ≡ setup'
 ok_same r setup setup' e e' = cc
 
-pub setup_is_one : (bytes : List ℕ) (setup setup' : Roster) (events events' : List EventLine) → IsScript bytes setup events → IsScript bytes setup' events' → setup ≡ setup'
+pub setup_is_one : (bytes : List ℕ) (setup setup' : SetupValue) (events events' : List EventLine) → IsScript bytes setup events → IsScript bytes setup' events' → setup ≡ setup'
 setup_is_one bytes setup setup' events events' s t = ok_same (setup_of (lines_read bytes)) setup setup' s.setup_is t.setup_is
 
 -- ---- a script has no fault
@@ -147,7 +147,7 @@ no_rule o rule none some = differ (ap (option_map rule_number) (sym none) ∙ so
     differ : None ≡ Some rule → ⊥
     differ e = cc
 
-pub no_fault : (bytes : List ℕ) (setup : Roster) (events : List EventLine) (line rule : ℕ) → IsScript bytes setup events → IsFault bytes line rule → ⊥
+pub no_fault : (bytes : List ℕ) (setup : SetupValue) (events : List EventLine) (line rule : ℕ) → IsScript bytes setup events → IsFault bytes line rule → ⊥
 no_fault bytes setup events line rule s f =
     no_rule (broken f.front (line, f.said)) rule (unbroken_at [] f.front (line, f.said) f.back (subst (Unbroken []) f.cut s.fine)) f.breaks
 

@@ -2,15 +2,15 @@
 use Rattle.std.proofs.Common.{◌≡◌, ℕ, ◌+◌, List, [], ◌∷◌, ◌++◌, map, length, None, Ok, Err, refl, sym, ap, ◌∙◌, subst, append-nil, append_assoc}
 use Rattle.std.specs.declared.option.Option.{Option}
 use Rattle.eac_base.specs.Answers.{◌>>=◌}
-use Rattle.policy_limits.specs.Lines.{numbered_from}
-use Rattle.policy_limits.specs.Roster.{Roster, roster_of}
+use Rattle.plain_text.specs.Lines.{numbered_from}
+use Rattle.policy_limits.specs.Setup.{SetupValue, setup_value}
 use Rattle.policy_limits.specs.SetupText.{with_lines}
 use Rattle.policy_limits.proofs.SetupReading.{both_parts}
 use Rattle.eac_cli.specs.Script.{Line, InSetup, Alone, line_of, lines_read, setup_lines, setup_of, events_of, later_day, day_after, broken_behind, broken, Unbroken, Takes}
 use Rattle.eac_cli.specs.declared.event.EventLine.{EventLine}
 
 -- The lines up to line `last` are read and break no rule, and `rest` is left of the bytes.
-pub record Reading (bytes rest : List ℕ) (last : ℕ) (setup : Roster) (today : Option ℕ) (events : List EventLine) : Type 0 where
+pub record Reading (bytes rest : List ℕ) (last : ℕ) (setup : SetupValue) (today : Option ℕ) (events : List EventLine) : Type 0 where
   pub front : List Line
   pub cut : lines_read bytes ≡ front ++ map line_of (numbered_from (last + 1) rest)
   pub fine : Unbroken [] front
@@ -27,7 +27,7 @@ setup_more ((n, Alone read) ∷ front) back = setup_more front back
 
 pub setup_then : (front back : List Line) → setup_of (front ++ back) ≡ (setup_of front >>= λ r. with_lines r (setup_lines back))
 setup_then front back =
-    ap (λ ls. with_lines (roster_of [] []) ls) (setup_more front back) ∙ both_parts (roster_of [] []) (setup_lines front) (setup_lines back)
+    ap (λ ls. with_lines (setup_value [] []) ls) (setup_more front back) ∙ both_parts (setup_value [] []) (setup_lines front) (setup_lines back)
 
 pub day_more : (today : Option ℕ) (front back : List Line) → day_after today (front ++ back) ≡ day_after (day_after today front) back
 day_more today [] back = refl
@@ -52,13 +52,13 @@ cut_more : (all front : List Line) (rest text after : List ℕ) (last line : ℕ
 cut_more all front rest text after last line cut next = cut ∙ ap (λ ls. front ++ map line_of ls) next
 
 -- What a line breaks behind the front is what it breaks behind what the front says.
-same_rule : (front : List Line) (setup : Roster) (today : Option ℕ) (events : List EventLine) (line : Line) → setup_of front ≡ Ok setup → today ≡ day_after None front → events ≡ events_of front → broken front line ≡ broken_behind (Ok setup) today (length events) line
+same_rule : (front : List Line) (setup : SetupValue) (today : Option ℕ) (events : List EventLine) (line : Line) → setup_of front ≡ Ok setup → today ≡ day_after None front → events ≡ events_of front → broken front line ≡ broken_behind (Ok setup) today (length events) line
 same_rule front setup today events line s d e =
     ap (λ r. broken_behind r (day_after None front) (length (events_of front)) line) s
     ∙ ap (λ t. broken_behind (Ok setup) t (length (events_of front)) line) (sym d)
     ∙ ap (λ es. broken_behind (Ok setup) today (length es) line) (sym e)
 
-pub reading_more : (bytes rest text after : List ℕ) (last line : ℕ) (setup setup' : Roster) (today today' : Option ℕ) (events events' : List EventLine) → Reading bytes rest last setup today events → numbered_from (last + 1) rest ≡ (line, text) ∷ numbered_from (line + 1) after → Takes (line_of (line, text)) setup setup' today today' events events' → Reading bytes after line setup' today' events'
+pub reading_more : (bytes rest text after : List ℕ) (last line : ℕ) (setup setup' : SetupValue) (today today' : Option ℕ) (events events' : List EventLine) → Reading bytes rest last setup today events → numbered_from (last + 1) rest ≡ (line, text) ∷ numbered_from (line + 1) after → Takes (line_of (line, text)) setup setup' today today' events events' → Reading bytes after line setup' today' events'
 reading_more bytes rest text after last line setup setup' today today' events events' r next t =
     let one : List Line = line_of (line, text) ∷ [] in
     record {

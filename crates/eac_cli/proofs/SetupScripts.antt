@@ -8,14 +8,14 @@ use Rattle.std.specs.Option.{option_or}
 use Rattle.std.specs.Str.{bytes_eq}
 use Rattle.eac_base.specs.Answers.{◌>>=◌, some_or, ◌gives◌}
 use Rattle.eac_base.specs.Text.{is_word, numbered_lines}
-use Rattle.policy_limits.specs.Lines.{pieces}
-use Rattle.policy_limits.specs.Roster.{Roster, roster_of}
+use Rattle.plain_text.specs.Lines.{pieces}
+use Rattle.policy_limits.specs.Setup.{SetupValue, setup_value}
 use Rattle.policy_limits.specs.SetupLine.{line_said, authority_said, plain_said, registration_said, begins_with_kind, is_setup_line}
 use Rattle.policy_limits.specs.SetupText.{with_said, with_line, with_lines, read_setup}
 use Rattle.policy_limits.specs.declared.party.PartyKind.TheVariants as kinds
 use Rattle.policy_limits.specs.declared.setup_line.SetupLine.{SetupLine}
-use Rattle.policy_limits.specs.declared.setup_text.SetupRefusal.{SetupRefusal}
-use Rattle.policy_limits.specs.declared.setup_text.SetupRefusal.TheVariants.{Form}
+use Rattle.policy_limits.specs.declared.setup_refusal.SetupRefusal.{SetupRefusal}
+use Rattle.policy_limits.specs.declared.setup_refusal.SetupRefusal.TheVariants.{Form}
 use Rattle.eac_cli.specs.Script.{Line, InSetup, Alone, line_of, setup_lines, setup_of, events_of, rule_in_setup, late_rule, setup_rule_behind, broken, Unbroken, IsScript}
 use Rattle.eac_cli.specs.ScriptLaws.{SetupsAreScripts}
 use Rattle.eac_cli.specs.LineGrammar.{event_of}
@@ -26,7 +26,7 @@ use Rattle.eac_cli.proofs.Reading.{setup_then, events_more}
 
 -- ---- a line that is taken is a setup line
 
-module _ (r next : Roster) (n : ℕ) where
+module _ (r next : SetupValue) (n : ℕ) where
   abbrev taken : Option SetupLine → Type 0
   taken said = (some_or said (Form n) >>= with_said r n) ≡ Ok next
 
@@ -63,26 +63,26 @@ record GoesOn (earlier : List Line) (ls : List (ℕ × List ℕ)) : Type 0 where
   pub same : setup_lines (map line_of ls) ≡ ls
   pub no_event : events_of (map line_of ls) ≡ []
 
-module _ (earlier : List Line) (start : Roster) (n : ℕ) (text : List ℕ) (ls : List (ℕ × List ℕ)) (behind : setup_of earlier ≡ Ok start) (no_event : events_of earlier ≡ []) where
+module _ (earlier : List Line) (start : SetupValue) (n : ℕ) (text : List ℕ) (ls : List (ℕ × List ℕ)) (behind : setup_of earlier ≡ Ok start) (no_event : events_of earlier ≡ []) where
   abbrev one : Line
   one = (n, InSetup text)
 
   one_is : is_setup_line text ≡ true → line_of (n, text) ≡ one
   one_is is = ap (λ b. (n, cond b (InSetup text) (Alone (event_of text)))) is
 
-  breaks_none : (next : Roster) → with_line start (n, text) ≡ Ok next → broken earlier one ≡ None
+  breaks_none : (next : SetupValue) → with_line start (n, text) ≡ Ok next → broken earlier one ≡ None
   breaks_none next is =
       ap (λ s. setup_rule_behind s (length (events_of earlier)) (n, text)) behind
       ∙ ap (λ w. option_or (rule_in_setup w) (late_rule (length (events_of earlier)))) is
       ∙ ap (λ (es : List EventLine). late_rule (length es)) no_event
 
-  later : (next : Roster) → with_line start (n, text) ≡ Ok next → setup_of (earlier ++ one ∷ []) ≡ Ok next
+  later : (next : SetupValue) → with_line start (n, text) ≡ Ok next → setup_of (earlier ++ one ∷ []) ≡ Ok next
   later next is = setup_then earlier (one ∷ []) ∙ ap (λ s. s >>= λ r. with_lines r ((n, text) ∷ [])) behind ∙ ap (λ w. w >>= λ r. with_lines r []) is
 
   still_none : events_of (earlier ++ one ∷ []) ≡ []
   still_none = events_more earlier (one ∷ []) ∙ ap (λ (es : List EventLine). es ++ []) no_event
 
-  goes_on_with : (next : Roster) → with_line start (n, text) ≡ Ok next → GoesOn (earlier ++ one ∷ []) ls → GoesOn earlier ((n, text) ∷ ls)
+  goes_on_with : (next : SetupValue) → with_line start (n, text) ≡ Ok next → GoesOn (earlier ++ one ∷ []) ls → GoesOn earlier ((n, text) ∷ ls)
   goes_on_with next is rest =
       let same : one ≡ line_of (n, text) = sym (one_is (is_setup start next n text is)) in
       record {
@@ -91,14 +91,14 @@ module _ (earlier : List Line) (start : Roster) (n : ℕ) (text : List ℕ) (ls 
         no_event = subst (λ l. events_of (l ∷ map line_of ls) ≡ []) same rest.no_event;
       }
 
-  by_line : (w : Result Roster SetupRefusal) (setup : Roster) → with_line start (n, text) ≡ w → (w >>= λ r. with_lines r ls) ≡ Ok setup → ((next : Roster) → with_line start (n, text) ≡ Ok next → with_lines next ls ≡ Ok setup → GoesOn (earlier ++ one ∷ []) ls) → GoesOn earlier ((n, text) ∷ ls)
+  by_line : (w : Result SetupValue SetupRefusal) (setup : SetupValue) → with_line start (n, text) ≡ w → (w >>= λ r. with_lines r ls) ≡ Ok setup → ((next : SetupValue) → with_line start (n, text) ≡ Ok next → with_lines next ls ≡ Ok setup → GoesOn (earlier ++ one ∷ []) ls) → GoesOn earlier ((n, text) ∷ ls)
   by_line (Ok next) setup is read rest = goes_on_with next is (rest next is read)
   by_line (Err f) setup is read rest = absurd (never read)
     where
       never : Err f ≡ Ok setup → ⊥
       never e = cc
 
-goes_on : (earlier : List Line) (start setup : Roster) (ls : List (ℕ × List ℕ)) → setup_of earlier ≡ Ok start → events_of earlier ≡ [] → with_lines start ls ≡ Ok setup → GoesOn earlier ls
+goes_on : (earlier : List Line) (start setup : SetupValue) (ls : List (ℕ × List ℕ)) → setup_of earlier ≡ Ok start → events_of earlier ≡ [] → with_lines start ls ≡ Ok setup → GoesOn earlier ls
 goes_on earlier start setup [] behind no_event read = record { fine = tt; same = refl; no_event = refl }
 goes_on earlier start setup ((n, text) ∷ ls) behind no_event read =
     by_line earlier start n text ls behind no_event (with_line start (n, text)) setup refl read
@@ -128,9 +128,9 @@ setups_are_scripts text setup = (script, setup_read)
   where
     script : read_setup text ≡ Ok setup → IsScript text setup []
     script read =
-        let on = goes_on [] (roster_of [] []) setup (numbered_lines text) refl refl read in
-        record { fine = on.fine; setup_is = ap (with_lines (roster_of [] [])) on.same ∙ read; events_are = sym on.no_event }
+        let on = goes_on [] (setup_value [] []) setup (numbered_lines text) refl refl read in
+        record { fine = on.fine; setup_is = ap (with_lines (setup_value [] [])) on.same ∙ read; events_are = sym on.no_event }
 
     setup_read : IsScript text setup [] → read_setup text ≡ Ok setup
     setup_read s =
-        ap (with_lines (roster_of [] [])) (sym (all_setup [] (numbered_lines text) s.fine (sym s.events_are))) ∙ s.setup_is
+        ap (with_lines (setup_value [] [])) (sym (all_setup [] (numbered_lines text) s.fine (sym s.events_are))) ∙ s.setup_is

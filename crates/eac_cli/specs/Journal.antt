@@ -2,7 +2,7 @@
 use Rattle.std.specs.Prelude.{ℕ, List, [], ◌∷◌, ◌++◌, map, codes}
 use Rattle.std.specs.Fmt.{decimal}
 use Rattle.issue_core.specs.declared.rule.Rule.{Rule}
-use Rattle.issue_core.specs.Ledger.{Outcome, Issued, Kept, Refused, Faulted, NoMemory}
+use Rattle.ledger.specs.Ledger.{Outcome, Issued, Kept, Refused, Faulted, NoMemory}
 use Rattle.issue_core.specs.RuleNumbers.{number_of}
 use Rattle.issue_core.specs.Register.{Fault}
 use Rattle.eac_cli.specs.declared.event.Event.{Event}
@@ -22,9 +22,13 @@ answer_text Silent = []
 answer_text (Registered reference outcome) = outcome_text reference outcome
 answer_text Memory = []
 
--- the number of the script's line, a colon and a space, the answer, and a line feed
+-- what a line begins with: the number of the script's line, a colon and a space
+abbrev pub line_head : ℕ → List ℕ
+line_head number = decimal number ++ 58 ∷ 32 ∷ []
+
+-- a whole line: its head, the answer, and a line feed
 abbrev pub numbered_line : ℕ → List ℕ → List ℕ
-numbered_line number text = decimal number ++ (58 ∷ 32 ∷ []) ++ text ++ 10 ∷ []
+numbered_line number text = line_head number ++ text ++ 10 ∷ []
 
 -- `day` lines and want of memory have no line
 abbrev pub line_text : ℕ → Answer → List ℕ

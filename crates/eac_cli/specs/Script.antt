@@ -1,19 +1,23 @@
 -- Scripts, and the first fault of what is none (this project's own).
-use Rattle.std.specs.Prelude.{◌≡◌, ◌≤◌, ℕ, List, [], ◌∷◌, ◌++◌, map, length, nat_lt, Option, Some, None, Result, Ok, Err, if◌then◌else◌}
+use Rattle.std.specs.Prelude.{◌≡◌, ◌≤◌, ℕ, List, [], ◌∷◌, ◌++◌, map, length, nat_lt, Option, Some, None, Result, Ok}
+use Rattle.std.specs.Prelude.{Err, if◌then◌else◌}
 use Rattle.std.specs.Option.{option_map, option_or}
 use Rattle.eac_base.specs.Answers.{◌>>=◌}
 use Rattle.eac_base.specs.Text.{numbered_lines}
-use Rattle.policy_limits.specs.Roster.{Roster, roster_of}
+use Rattle.policy_limits.specs.Setup.{SetupValue, setup_value}
 use Rattle.policy_limits.specs.SetupLine.{is_setup_line}
 use Rattle.policy_limits.specs.SetupText.{with_line, with_lines}
-use Rattle.policy_limits.specs.declared.setup_text.SetupRefusal.{SetupRefusal}
-use Rattle.policy_limits.specs.declared.setup_text.SetupRefusal.TheVariants.{Form, Limit as SetupLimit, Twice as SetupTwice, NoMemory as SetupNoMemory}
+use Rattle.policy_limits.specs.declared.setup_refusal.SetupRefusal.{SetupRefusal}
+use Rattle.policy_limits.specs.declared.setup_refusal.SetupRefusal.TheVariants.{Form, Limit as SetupLimit}
+use Rattle.policy_limits.specs.declared.setup_refusal.SetupRefusal.TheVariants.{Twice as SetupTwice}
+use Rattle.policy_limits.specs.declared.setup_refusal.SetupRefusal.TheVariants.{NoMemory as SetupNoMemory}
 use Rattle.eac_cli.specs.LineGrammar.{event_of, rule_number}
 use Rattle.eac_cli.specs.declared.event.Event.{Event}
 use Rattle.eac_cli.specs.declared.event.Event.TheVariants.{Day, Ask}
 use Rattle.eac_cli.specs.declared.event.EventLine.{EventLine}
 use Rattle.eac_cli.specs.declared.line_rule.LineRule.{LineRule}
-use Rattle.eac_cli.specs.declared.line_rule.LineRule.TheVariants.{Grammar, Limit, Twice, TooLate, TooEarly, DayFalls, TooMany}
+use Rattle.eac_cli.specs.declared.line_rule.LineRule.TheVariants.{Grammar, Limit, Twice, TooLate, TooEarly, DayFalls}
+use Rattle.eac_cli.specs.declared.line_rule.LineRule.TheVariants.{TooMany}
 use Rattle.eac_cli.specs.declared.line_rule.LineRefusal.{LineRefusal}
 use Rattle.eac_cli.specs.declared.line_rule.LineRefusal.TheVariants.{Rule, NoMemory}
 use Rattle.eac_cli.specs.declared.script.ScriptRefusal.{ScriptRefusal}
@@ -21,8 +25,8 @@ use Rattle.eac_cli.specs.declared.script.ScriptRefusal.TheVariants.{Fault, NoMem
 
 -- ---- lines
 
--- What a line says that isn't passed over. A setup line names parties of the lines before it, so its text stays. Any other
--- line is read by itself: to its event, or to the rule that it breaks.
+-- What a line says that isn't passed over. A setup line names parties of the lines before it, so its text stays. Any
+-- other line is read by itself: to its event, or to the rule that it breaks.
 pub data Said : Type 0 where
   InSetup : (text : List ℕ) → Said
   Alone : (read : Result Event LineRule) → Said
@@ -49,8 +53,8 @@ setup_lines ((n, InSetup text) ∷ lines) = (n, text) ∷ setup_lines lines
 setup_lines ((n, Alone read) ∷ lines) = setup_lines lines
 
 -- The setup that the setup lines are as a text of their own, or the first rule that one of them breaks there.
-abbrev pub setup_of : List Line → Result Roster SetupRefusal
-setup_of lines = with_lines (roster_of [] []) (setup_lines lines)
+abbrev pub setup_of : List Line → Result SetupValue SetupRefusal
+setup_of lines = with_lines (setup_value [] []) (setup_lines lines)
 
 -- The events.
 abbrev pub events_of : List Line → List EventLine
@@ -80,7 +84,7 @@ setup_rule (SetupLimit line) = Some Limit
 setup_rule (SetupTwice line) = Some Twice
 setup_rule SetupNoMemory = None
 
-abbrev pub rule_in_setup : Result Roster SetupRefusal → Option LineRule
+abbrev pub rule_in_setup : Result SetupValue SetupRefusal → Option LineRule
 rule_in_setup (Ok setup) = None
 rule_in_setup (Err refusal) = setup_rule refusal
 
@@ -89,7 +93,7 @@ abbrev pub late_rule : ℕ → Option LineRule
 late_rule events = if nat_lt 0 events then Some TooLate else None
 
 -- The least rule that a setup line breaks behind this setup and so many events.
-abbrev pub setup_rule_behind : Result Roster SetupRefusal → ℕ → ℕ × List ℕ → Option LineRule
+abbrev pub setup_rule_behind : Result SetupValue SetupRefusal → ℕ → ℕ × List ℕ → Option LineRule
 setup_rule_behind setup events line = option_or (rule_in_setup (setup >>= λ r. with_line r line)) (late_rule events)
 
 -- ---- rules of events
@@ -117,7 +121,7 @@ event_rule_behind today events (Err rule) = Some rule
 -- ---- rules of lines
 
 -- The least rule that a line breaks behind this setup, on this day and behind so many events.
-abbrev pub broken_behind : Result Roster SetupRefusal → Option ℕ → ℕ → Line → Option LineRule
+abbrev pub broken_behind : Result SetupValue SetupRefusal → Option ℕ → ℕ → Line → Option LineRule
 broken_behind setup today events (n, InSetup text) = setup_rule_behind setup events (n, text)
 broken_behind setup today events (n, Alone read) = event_rule_behind today events read
 
@@ -133,7 +137,7 @@ Unbroken earlier (line ∷ lines) = (broken earlier line ≡ None) × Unbroken (
 -- ---- scripts and faults
 
 -- The bytes are a script with this setup and these events.
-pub record IsScript (bytes : List ℕ) (setup : Roster) (events : List EventLine) : Type 0 where
+pub record IsScript (bytes : List ℕ) (setup : SetupValue) (events : List EventLine) : Type 0 where
   pub fine : Unbroken [] (lines_read bytes)
   pub setup_is : setup_of (lines_read bytes) ≡ Ok setup
   pub events_are : events ≡ events_of (lines_read bytes)
@@ -159,7 +163,8 @@ refused_at line NoMemory = ScriptNoMemory
 -- ---- one line as the program takes it
 
 -- The line breaks no rule, and this is the setup, the day and the events behind it.
-pub record Takes (line : Line) (setup setup' : Roster) (today today' : Option ℕ) (events events' : List EventLine) : Type 0 where
+pub record Takes (line : Line) (setup setup' : SetupValue) (today today' : Option ℕ) (events events' : List EventLine)
+    : Type 0 where
   pub fine : broken_behind (Ok setup) today (length events) line ≡ None
   pub setup_is : with_lines setup (setup_lines (line ∷ [])) ≡ Ok setup'
   pub day_is : today' ≡ day_after today (line ∷ [])

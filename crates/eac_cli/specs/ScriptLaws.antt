@@ -1,25 +1,33 @@
 -- What holds of scripts and their faults, whoever reads them.
 use Rattle.std.specs.Prelude.{◌≡◌, ◌≤◌, ℕ, List, [], ◌++◌, length, None, Ok}
-use Rattle.policy_limits.specs.Roster.{Roster}
+use Rattle.policy_limits.specs.Setup.{SetupValue}
 use Rattle.policy_limits.specs.SetupText.{read_setup}
 use Rattle.eac_cli.specs.Script.{Line, lines_read, setup_lines, events_of, IsScript, IsFault, InOrder}
 use Rattle.eac_cli.specs.declared.event.EventLine.{EventLine}
 
 -- A script has no fault.
 abbrev pub ScriptsAreFine : Type 0
-ScriptsAreFine = (bytes : List ℕ) (setup : Roster) (events : List EventLine) (line rule : ℕ) → IsScript bytes setup events → IsFault bytes line rule → ⊥
+ScriptsAreFine =
+    (bytes : List ℕ) (setup : SetupValue) (events : List EventLine) (line rule : ℕ)
+    → IsScript bytes setup events → IsFault bytes line rule → ⊥
 
 -- A fault is one.
 abbrev pub FaultIsOne : Type 0
-FaultIsOne = (bytes : List ℕ) (line rule line' rule' : ℕ) → IsFault bytes line rule → IsFault bytes line' rule' → (line ≡ line') × (rule ≡ rule')
+FaultIsOne =
+    (bytes : List ℕ) (line rule line' rule' : ℕ)
+    → IsFault bytes line rule → IsFault bytes line' rule' → (line ≡ line') × (rule ≡ rule')
 
 -- The events of a script are one list.
 abbrev pub EventsAreOne : Type 0
-EventsAreOne = (bytes : List ℕ) (setup setup' : Roster) (events events' : List EventLine) → IsScript bytes setup events → IsScript bytes setup' events' → events ≡ events'
+EventsAreOne =
+    (bytes : List ℕ) (setup setup' : SetupValue) (events events' : List EventLine)
+    → IsScript bytes setup events → IsScript bytes setup' events' → events ≡ events'
 
 -- The setup of a script is one.
 abbrev pub SetupIsOne : Type 0
-SetupIsOne = (bytes : List ℕ) (setup setup' : Roster) (events events' : List EventLine) → IsScript bytes setup events → IsScript bytes setup' events' → setup ≡ setup'
+SetupIsOne =
+    (bytes : List ℕ) (setup setup' : SetupValue) (events events' : List EventLine)
+    → IsScript bytes setup events → IsScript bytes setup' events' → setup ≡ setup'
 
 -- Lines of which no event comes, and then lines of which none is a setup line.
 pub record IsInTwoParts (lines : List Line) : Type 0 where
@@ -31,16 +39,23 @@ pub record IsInTwoParts (lines : List Line) : Type 0 where
 
 -- All setup lines of a script stand before its events.
 abbrev pub SetupsComeFirst : Type 0
-SetupsComeFirst = (bytes : List ℕ) (setup : Roster) (events : List EventLine) → IsScript bytes setup events → IsInTwoParts (lines_read bytes)
+SetupsComeFirst =
+    (bytes : List ℕ) (setup : SetupValue) (events : List EventLine)
+    → IsScript bytes setup events → IsInTwoParts (lines_read bytes)
 
 -- A text is a setup exactly where it is a script without events, and then it is the script's.
 abbrev pub SetupsAreScripts : Type 0
-SetupsAreScripts = (text : List ℕ) (setup : Roster) → (read_setup text ≡ Ok setup → IsScript text setup []) × (IsScript text setup [] → read_setup text ≡ Ok setup)
+SetupsAreScripts =
+    (text : List ℕ) (setup : SetupValue)
+    → (read_setup text ≡ Ok setup → IsScript text setup []) × (IsScript text setup [] → read_setup text ≡ Ok setup)
 
 -- Each event of a script is in its place.
 abbrev pub ScriptsAreInOrder : Type 0
-ScriptsAreInOrder = (bytes : List ℕ) (setup : Roster) (events : List EventLine) → IsScript bytes setup events → InOrder None events
+ScriptsAreInOrder =
+    (bytes : List ℕ) (setup : SetupValue) (events : List EventLine) → IsScript bytes setup events → InOrder None events
 
 -- A script has 20,000 events at most.
 abbrev pub ScriptsAreShort : Type 0
-ScriptsAreShort = (bytes : List ℕ) (setup : Roster) (events : List EventLine) → IsScript bytes setup events → length events ≤ 20000
+ScriptsAreShort =
+    (bytes : List ℕ) (setup : SetupValue) (events : List EventLine)
+    → IsScript bytes setup events → length events ≤ 20000

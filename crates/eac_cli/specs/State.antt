@@ -3,7 +3,7 @@
 use Rattle.std.specs.Prelude.{ℕ, List, [], Option, None}
 use Rattle.keeper.specs.declared.rows.Row.{Row}
 use Rattle.issue_core.specs.declared.rule.Rule.{Rule}
-use Rattle.issue_core.specs.Ledger.{Delivery}
+use Rattle.ledger.specs.Ledger.{Delivery}
 use Rattle.issue_core.specs.Register.{Asked, Fault}
 
 pub record State : Type 0 where

@@ -1,14 +1,16 @@
 -- What the top call did, by its status (this project's own).
-use Rattle.std.specs.Prelude.{◌≡◌, ◌⊎◌, ℕ, ◌<◌, ◌≤◌, List, [], ◌∷◌, ◌++◌, length, map, take, codes, Option, Some, None, IfSome, slice_get, if◌then◌else◌}
+use Rattle.std.specs.Prelude.{◌≡◌, ◌≢◌, ◌⊎◌, ℕ, ◌+◌, ◌<◌, ◌≤◌, List, [], ◌∷◌, ◌++◌, length, map, take, codes, Option}
+use Rattle.std.specs.Prelude.{Some, None, IfSome, slice_get, if◌then◌else◌}
 use Rattle.std.specs.Io.KnownBytes.{Consumes, IsAtEnd, Appends}
 use Rattle.std.specs.Str.{bytes_eq}
 use Rattle.eac_base.specs.Causes.{Rose, AppendsFront}
+use Rattle.eac_base.specs.Streaming.{TurnsAtMost}
 use Rattle.eac_base.specs.Telling.{Told}
 use Rattle.keeper.specs.declared.rows.Row.{Row}
 use Rattle.issue_core.specs.declared.rule.Rule.{Rule}
-use Rattle.issue_core.specs.Ledger.{Delivery, entries}
+use Rattle.ledger.specs.Ledger.{Delivery, entries}
 use Rattle.issue_core.specs.Register.{Asked, Fault, Deliveries, register, RegisterStory, entries_of, rows_of_ledger}
-use Rattle.policy_limits.specs.Roster.{Roster}
+use Rattle.policy_limits.specs.Setup.{SetupValue}
 use Rattle.eac_cli.specs.declared.event.Event.{Event}
 use Rattle.eac_cli.specs.declared.event.Event.TheVariants.{Day, Ask}
 use Rattle.eac_cli.specs.declared.event.EventLine.{EventLine}
@@ -17,18 +19,20 @@ use Rattle.eac_cli.specs.declared.running.Stop.TheVariants.{WriteFault as StopWr
 use Rattle.eac_cli.specs.declared.tool.Command.{Command}
 use Rattle.eac_cli.specs.declared.tool.Command.TheVariants.{Run, Show}
 use Rattle.eac_cli.specs.declared.tool.Status.{Status}
-use Rattle.eac_cli.specs.declared.tool.Status.TheVariants.{Done, Usage, ScriptFault, TooLong, ReadFault, WriteFault, NoMemory}
-use Rattle.eac_cli.specs.Objects.{Objects, ReadFailed, WriteFailed}
+use Rattle.eac_cli.specs.declared.tool.Status.TheVariants.{Done, Usage, ScriptFault, TooLong, ReadFault, WriteFault}
+use Rattle.eac_cli.specs.declared.tool.Status.TheVariants.{NoMemory}
+use Rattle.eac_cli.specs.Objects.{RunObjects, Objects, ReadFailed, WriteFailed}
 use Rattle.eac_cli.specs.Script.{later_day, IsScript, IsFault}
 use Rattle.eac_cli.specs.Show.{show_text}
 use Rattle.eac_cli.specs.State.{State, first_state}
-use Rattle.eac_cli.specs.Turn.{asked_on, Answer, Memory, History, AreAnswers, AreEnded}
+use Rattle.eac_cli.specs.Turn.{asked_on, Answer, Memory, History, MayAnswers, AreEnded}
 use Rattle.eac_cli.specs.Journal.{journal, line_text, events}
 
 -- ---- commands
 
 abbrev pub command_named : List ℕ → Option Command
-command_named word = if bytes_eq word (codes "run") then Some Run else if bytes_eq word (codes "show") then Some Show else None
+command_named word =
+    if bytes_eq word (codes "run") then Some Run else if bytes_eq word (codes "show") then Some Show else None
 
 -- the command that these words are, if they are one
 abbrev pub command_of : List (List ℕ) → Option Command
@@ -54,7 +58,8 @@ cases deliveries = map (λ (d : Delivery Asked (List ℕ) Rule Fault). d.case_of
 
 -- One state to which the history of these lines leads from the rows before. Its deliveries are what the `ask` lines
 -- ask, they are one story after the ledger of the rows before, and their ledger is what was added to the rows.
-pub record RunTells (before after : List Row) (first last : ℕ) (lines : List EventLine) (answers : List Answer) : Type 0 where
+pub record RunTells (before after : List Row) (first last : ℕ) (lines : List EventLine) (answers : List Answer)
+    : Type 0 where
   pub end : State
   pub history : History (first_state before first) (events lines) answers end
   pub rows : end.rows ≡ after
@@ -63,42 +68,63 @@ pub record RunTells (before after : List Row) (first last : ℕ) (lines : List E
   pub story : RegisterStory (entries_of before) end.register
   pub ledger : after ≡ before ++ rows_of_ledger (entries register end.register)
 
--- These lines were run in order from no day on, with these answers: what each answer is and its cause, and where the rows
--- are told afterwards the history.
-pub record RunOf (rows rows' : Option (List Row)) (first last : ℕ) (lines : List EventLine) (answers : List Answer) : Type 0 where
+-- These lines were run in order from no day on, with these answers. Whatever the keeper tells, each is one that may
+-- come; where the rows are told afterwards, they are the answers of a history.
+pub record RunOf (before after : RunObjects) (lines : List EventLine) (answers : List Answer) : Type 0 where
   pub day : Option ℕ
-  pub answered : AreAnswers (record { day = None; keeper = first }) (events lines) answers (record { day = day; keeper = last })
-  pub told : Told rows rows' (λ before after. RunTells before after first last lines answers)
+  pub answered : MayAnswers (record { day = None; keeper = before.keeper_faults }) (events lines) answers
+      (record { day = day; keeper = after.keeper_faults })
+  pub told : Told before.rows after.rows
+      (λ r r'. RunTells r r' before.keeper_faults after.keeper_faults lines answers)
 
 -- ---- by status
 
--- What went out: these journal lines, and of the line of the answer a front which is not all of it; or these lines alone.
-abbrev pub SentUntil : Option (List ℕ) → Option (List ℕ) → Stop → List ℕ → ℕ → Answer → Type 0
-SentUntil old new StopWriteFault before number answer =
-    (n : ℕ) × (n < length (line_text number answer)) × Appends old new (before ++ take n (line_text number answer))
-SentUntil old new StopNoMemory before number answer = (answer ≡ Memory) × Appends old new before
+-- What the sink took: these journal lines, and of the line of the answer a front which is not all of it, since a write
+-- failed; or these lines alone, since memory was wanting, and no write failed.
+abbrev pub SentUntil : RunObjects → RunObjects → Stop → List ℕ → ℕ → Answer → Type 0
+SentUntil before after StopWriteFault lines number answer =
+    (n : ℕ) × (n < length (line_text number answer))
+    × Appends before.taken after.taken (lines ++ take n (line_text number answer)) × WriteFailed before after
+SentUntil before after StopNoMemory lines number answer =
+    (answer ≡ Memory) × Appends before.taken after.taken lines × (after.lost ≡ before.lost)
 
 -- the most bytes that are read
 abbrev pub most_input : ℕ
 most_input = 4194304
 
+-- These bytes were read: they went off the front of what the source had, at most one of them past the limit, and each
+-- read but the last took one at least.
+pub record WereRead (left left' : Option (List ℕ)) (reads reads' : Option ℕ) (bytes : List ℕ) : Type 0 where
+  pub taken : Consumes left left' bytes
+  pub most : length bytes ≤ most_input + 1
+  pub turns : TurnsAtMost reads reads' (length bytes + 1)
+
 -- all that the source had was read, and it is within the limit
 abbrev pub WasRead : Option (List ℕ) → List ℕ → Type 0
 WasRead left bytes = IsAtEnd left × (length bytes ≤ most_input)
 
--- What a call did: the rows before and after, the keeper's counts, and what the sink had taken before and after.
-module _ (rows rows' : Option (List Row)) (first last : ℕ) (old new : Option (List ℕ)) where
+-- The bytes are a script that was read whole, and its lines were run so.
+pub record Ran (left : Option (List ℕ)) (bytes : List ℕ) (Did : List EventLine → Type 0) : Type 0 where
+  pub read : WasRead left bytes
+  pub setup : SetupValue
+  pub lines : List EventLine
+  pub script : IsScript bytes setup lines
+  pub did : Did lines
+
+-- what a call did with sink and keeper
+module _ (before after : RunObjects) where
   -- nothing was run and nothing was written
   abbrev pub Nothing : ℕ → Type 0
-  Nothing done = (done ≡ 0) × (rows' ≡ rows) × (last ≡ first) × (new ≡ old)
+  Nothing done = (done ≡ 0) × (after ≡ before)
 
-  -- All lines were run, and the journal of their answers went out.
+  -- All lines were run, and the journal of their answers went out. No write failed.
   pub record Whole (lines : List EventLine) (done : ℕ) : Type 0 where
     pub answers : List Answer
     pub all : done ≡ length lines
     pub ended : AreEnded answers
-    pub run : RunOf rows rows' first last lines answers
-    pub sent : Appends old new (journal lines answers)
+    pub run : RunOf before after lines answers
+    pub sent : Appends before.taken after.taken (journal lines answers)
+    pub quiet : after.lost ≡ before.lost
 
   -- The first lines were run, and their journal lines went out whole. Then the next line was run, and the run stopped.
   pub record Stopped (stop : Stop) (lines : List EventLine) (done : ℕ) : Type 0 where
@@ -108,24 +134,24 @@ module _ (rows rows' : Option (List Row)) (first last : ℕ) (old new : Option (
     pub next : slice_get lines done ≡ Some line
     pub count : length answers ≡ done
     pub ended : AreEnded answers
-    pub run : RunOf rows rows' first last (take done lines ++ line ∷ []) (answers ++ answer ∷ [])
-    pub sent : SentUntil old new stop (journal (take done lines) answers) line.line answer
+    pub run : RunOf before after (take done lines ++ line ∷ []) (answers ++ answer ∷ [])
+    pub sent : SentUntil before after stop (journal (take done lines) answers) line.line answer
 
   -- what stands for each status, where the source has this left and these bytes were read
   abbrev pub Claim : Option (List ℕ) → Status → ℕ → List ℕ → Type 0
-  Claim left Done done bytes = WasRead left bytes × (setup : Roster) × (lines : List EventLine) × IsScript bytes setup lines × Whole lines done
+  Claim left Done done bytes = Ran left bytes (λ lines. Whole lines done)
   Claim left Usage done bytes = ⊥
   Claim left (ScriptFault line rule) done bytes = WasRead left bytes × IsFault bytes line rule × Nothing done
   Claim left TooLong done bytes = (most_input < length bytes) × Nothing done
   Claim left ReadFault done bytes = Nothing done
-  Claim left WriteFault done bytes = WasRead left bytes × (setup : Roster) × (lines : List EventLine) × IsScript bytes setup lines × Stopped StopWriteFault lines done
-  Claim left NoMemory done bytes = Nothing done ⊎ (WasRead left bytes × (setup : Roster) × (lines : List EventLine) × IsScript bytes setup lines × Stopped StopNoMemory lines done)
+  Claim left WriteFault done bytes = Ran left bytes (λ lines. Stopped StopWriteFault lines done)
+  Claim left NoMemory done bytes = Nothing done ⊎ Ran left bytes (λ lines. Stopped StopNoMemory lines done)
 
 -- ---- `show`
 
--- What stands for each status of `show`, where the source has this left and these bytes were read: the text that is
--- printed of them, or a front of it.
-abbrev pub Shows : Option (List ℕ) → Option (List ℕ) → Option (List ℕ) → Status → List ℕ → Type 0
+-- What stands for each status of `show`, by what the sink had taken before and after, where the source has this left
+-- and these bytes were read: the text that is printed of them, or a front of it.
+abbrev pub Shows : (old new left : Option (List ℕ)) → Status → List ℕ → Type 0
 Shows old new left Done bytes = WasRead left bytes × Appends old new (show_text bytes)
 Shows old new left Usage bytes = ⊥
 Shows old new left (ScriptFault line rule) bytes = ⊥
@@ -134,42 +160,65 @@ Shows old new left ReadFault bytes = new ≡ old
 Shows old new left WriteFault bytes = WasRead left bytes × AppendsFront old new (show_text bytes)
 Shows old new left NoMemory bytes = new ≡ old
 
--- Where no read and no write failed, what is within the limit is shown, but for want of memory.
-abbrev pub IsShown : List ℕ → Type 0 → Type 0 → Status → Type 0
-IsShown bytes read written status = length bytes ≤ most_input → ¬ read → ¬ written → (status ≡ Done) ⊎ (status ≡ NoMemory)
-
 -- ---- what has to come of a source that tells its bytes
 
 -- Where no read and no write failed, a script within the limit is run to its end, but for want of memory.
-abbrev pub IsComplete : List ℕ → Type 0 → Type 0 → Status → Type 0
-IsComplete bytes read written status = (setup : Roster) (lines : List EventLine) → IsScript bytes setup lines → length bytes ≤ most_input → ¬ read → ¬ written → (status ≡ Done) ⊎ (status ≡ NoMemory)
+abbrev pub IsComplete : List ℕ → (read written : Type 0) → Status → Type 0
+IsComplete bytes read written status =
+    (setup : SetupValue) (lines : List EventLine) → IsScript bytes setup lines → length bytes ≤ most_input
+    → ¬ read → ¬ written → (status ≡ Done) ⊎ (status ≡ NoMemory)
 
 -- Where no read failed, a fault of the script within the limit is told, but for want of memory.
-abbrev pub TellsFault : List ℕ → Type 0 → Status → Type 0
-TellsFault bytes read status = (line rule : ℕ) → IsFault bytes line rule → length bytes ≤ most_input → ¬ read → (status ≡ ScriptFault line rule) ⊎ (status ≡ NoMemory)
+abbrev pub TellsFault : List ℕ → (read : Type 0) → Status → Type 0
+TellsFault bytes read status =
+    (line rule : ℕ) → IsFault bytes line rule → length bytes ≤ most_input
+    → ¬ read → (status ≡ ScriptFault line rule) ⊎ (status ≡ NoMemory)
 
 -- Where no read failed, more bytes than the limit are too long, but for want of memory.
-abbrev pub TellsLength : List ℕ → Type 0 → Status → Type 0
+abbrev pub TellsLength : List ℕ → (read : Type 0) → Status → Type 0
 TellsLength bytes read status = most_input < length bytes → ¬ read → (status ≡ TooLong) ⊎ (status ≡ NoMemory)
+
+-- Where no read and no write failed, what is within the limit is shown, but for want of memory.
+abbrev pub IsShown : List ℕ → (read written : Type 0) → Status → Type 0
+IsShown bytes read written status =
+    length bytes ≤ most_input → ¬ read → ¬ written → (status ≡ Done) ⊎ (status ≡ NoMemory)
 
 -- ---- one call
 
 -- One call of `run`, from the objects before it to those after it.
 pub record RunCall (before after : Objects) (status : Status) (done : ℕ) : Type 0 where
   -- the bytes that were read, and by the status what was done with them
-  pub claim : (bytes : List ℕ) × Consumes before.left after.left bytes × Claim before.rows after.rows before.keeper_faults after.keeper_faults before.taken after.taken after.left status done bytes
+  pub claim : (bytes : List ℕ) × WereRead before.left after.left before.reads after.reads bytes
+      × Claim before.run after.run after.left status done bytes
   -- where the source tells its bytes, a script is run, a fault is told, and too much is too long
-  pub complete : IfSome before.left (λ bytes. IsComplete bytes (ReadFailed before after) (WriteFailed before after) status)
+  pub complete : IfSome before.left
+      (λ bytes. IsComplete bytes (ReadFailed before after) (WriteFailed before.run after.run) status)
   pub faulty : IfSome before.left (λ bytes. TellsFault bytes (ReadFailed before after) status)
   pub too_long : IfSome before.left (λ bytes. TellsLength bytes (ReadFailed before after) status)
 
 -- One call of `show`, from the objects before it to those after it.
 pub record ShowCall (before after : Objects) (status : Status) : Type 0 where
   -- the bytes that were read, and by the status what was printed of them
-  pub shows : (bytes : List ℕ) × Consumes before.left after.left bytes × Shows before.taken after.taken after.left status bytes
+  pub shows : (bytes : List ℕ) × WereRead before.left after.left before.reads after.reads bytes
+      × Shows before.run.taken after.run.taken after.left status bytes
   -- where the source tells its bytes, they are shown, and too much is too long
-  pub shown : IfSome before.left (λ bytes. IsShown bytes (ReadFailed before after) (WriteFailed before after) status)
+  pub shown : IfSome before.left
+      (λ bytes. IsShown bytes (ReadFailed before after) (WriteFailed before.run after.run) status)
   pub too_long : IfSome before.left (λ bytes. TellsLength bytes (ReadFailed before after) status)
+
+-- The count rose where this status is told, and stands as it was under any other.
+abbrev pub RoseFor : (told status : Status) → (before now : ℕ) → Type 0
+RoseFor told status before now = (status ≡ told → Rose before now) × (status ≢ told → now ≡ before)
+
+-- Nothing is asked of sink and keeper under these statuses: the input isn't run.
+abbrev pub RunsNothing : Status → Type 0
+RunsNothing Usage = Unit {0}
+RunsNothing (ScriptFault line rule) = Unit {0}
+RunsNothing TooLong = Unit {0}
+RunsNothing ReadFault = Unit {0}
+RunsNothing Done = ⊥
+RunsNothing WriteFault = ⊥
+RunsNothing NoMemory = ⊥
 
 -- ---- small words of the program's functions
 
@@ -178,11 +227,11 @@ status_of None = Done
 status_of (Some StopWriteFault) = WriteFault
 status_of (Some StopNoMemory) = NoMemory
 
--- a run of bytes ends with these statuses alone, and with `WriteFault` only where the sink's count rose
-abbrev pub IsRunStatus : Status → ℕ → ℕ → Type 0
-IsRunStatus Done before now = Unit {0}
-IsRunStatus (ScriptFault line rule) before now = Unit {0}
-IsRunStatus NoMemory before now = Unit {0}
+-- a run of bytes ends with these statuses alone, and the sink's count rose where it is `WriteFault`, and only there
+abbrev pub IsRunStatus : Status → (before now : ℕ) → Type 0
+IsRunStatus Done before now = now ≡ before
+IsRunStatus (ScriptFault line rule) before now = now ≡ before
+IsRunStatus NoMemory before now = now ≡ before
 IsRunStatus WriteFault before now = Rose before now
 IsRunStatus Usage before now = ⊥
 IsRunStatus TooLong before now = ⊥

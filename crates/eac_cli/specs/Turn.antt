@@ -6,8 +6,8 @@ use Rattle.eac_base.specs.Runs.{Runs}
 use Rattle.issue_core.specs.declared.rule.Rule.{Rule}
 use Rattle.issue_core.specs.declared.rule.Rule.TheVariants.{Full}
 use Rattle.issue_core.specs.declared.serving.RegisterAnswer.TheVariants.{Kept as AnswerKept, Refused as AnswerRefused}
-use Rattle.issue_core.specs.Ledger.{Outcome, Issued, Kept, Refused, Faulted, NoMemory}
-use Rattle.issue_core.specs.Story.{Decides}
+use Rattle.ledger.specs.Ledger.{Outcome, Issued, Kept, Refused, Faulted, NoMemory}
+use Rattle.ledger.specs.Story.{Decides}
 use Rattle.issue_core.specs.Register.{Asked, Fault, register, unsigned, delivery_of, entries_of, rows_left, IsAgain}
 use Rattle.eac_cli.specs.declared.event.Event.{Event}
 use Rattle.eac_cli.specs.declared.event.Event.TheVariants.{Day, Ask}
@@ -40,7 +40,8 @@ pub record AskTurn (s : State) (reference bytes : List ℕ) (answer : Answer) (s
   pub faults : ℕ
   pub today : s.day ≡ Some day
   pub later : s.keeper ≤ faults
-  pub decides : Decides register unsigned (entries_of s.rows) (delivery_of (asked_on day reference bytes) (s.keeper, faults) outcome left)
+  pub decides : Decides register unsigned (entries_of s.rows)
+      (delivery_of (asked_on day reference bytes) (s.keeper, faults) outcome left)
   pub told : answer ≡ told_as reference outcome
   pub next : s' ≡ record s {
     rows = s.rows ++ rows_left (asked_on day reference bytes) left;
@@ -63,24 +64,35 @@ pub record Standing : Type 0 where
   pub day : Option ℕ
   pub keeper : ℕ
 
--- Why an outcome came: the day that is given is the one in force, what is kept or used is so by a row of that reference, a
--- full table is the keeper's word, and a fault of the keeper came only where its count rose.
-abbrev pub IsCaused : Standing → (reference bytes : List ℕ) → ℕ → Outcome (List ℕ) Rule Fault → Type 0
-IsCaused s reference bytes now (Issued given) = (day : ℕ) × (s.day ≡ Some day) × (given ≡ day_text day)
-IsCaused s reference bytes now (Kept given) = IsAgain reference bytes (AnswerKept given)
-IsCaused s reference bytes now (Refused rule) = IsAgain reference bytes (AnswerRefused rule) ⊎ (rule ≡ Full)
-IsCaused s reference bytes now (Faulted fault) = Rose s.keeper now
-IsCaused s reference bytes now NoMemory = Unit {0}
+-- How the keeper's count goes with an outcome: up where a fault of the keeper is told, and else not at all. Where
+-- memory was wanting it may have gone up before.
+abbrev pub Counts : (before now : ℕ) → Outcome (List ℕ) Rule Fault → Type 0
+Counts before now (Issued given) = now ≡ before
+Counts before now (Kept given) = now ≡ before
+Counts before now (Refused rule) = now ≡ before
+Counts before now (Faulted fault) = Rose before now
+Counts before now NoMemory = before ≤ now
 
--- The answer is one to this event, and it has its cause in what stood before and after.
-abbrev pub AnswersTo : Standing → Event → Answer → Standing → Type 0
-AnswersTo s (Day day) answer s' = (answer ≡ Silent) × (s' ≡ record { day = Some day; keeper = s.keeper })
-AnswersTo s (Ask reference bytes) answer s' =
-    (s'.day ≡ s.day) × (s.keeper ≤ s'.keeper) × (outcome : Outcome (List ℕ) Rule Fault) × (answer ≡ told_as reference outcome) × IsCaused s reference bytes s'.keeper outcome
+-- The outcome may come: a day that is given is the one in force; what is kept or used is what some row of that
+-- reference says, as a keeper may have it, and which row this keeper gave isn't said; and a full table is the keeper's
+-- word.
+abbrev pub MayCome : Standing → (reference bytes : List ℕ) → Outcome (List ℕ) Rule Fault → Type 0
+MayCome s reference bytes (Issued given) = (day : ℕ) × (s.day ≡ Some day) × (given ≡ day_text day)
+MayCome s reference bytes (Kept given) = IsAgain reference bytes (AnswerKept given)
+MayCome s reference bytes (Refused rule) = IsAgain reference bytes (AnswerRefused rule) ⊎ (rule ≡ Full)
+MayCome s reference bytes (Faulted fault) = Unit {0}
+MayCome s reference bytes NoMemory = Unit {0}
 
--- the answers to the events in their order, each with its cause in what stands about it
-abbrev pub AreAnswers : Standing → List Event → List Answer → Standing → Type 0
-AreAnswers = Runs AnswersTo
+-- The answer is one that may come to this event between what stood before and what stands after it.
+abbrev pub MayAnswer : Standing → Event → Answer → Standing → Type 0
+MayAnswer s (Day day) answer s' = (answer ≡ Silent) × (s' ≡ record { day = Some day; keeper = s.keeper })
+MayAnswer s (Ask reference bytes) answer s' =
+    (s'.day ≡ s.day) × (s.keeper ≤ s'.keeper) × (outcome : Outcome (List ℕ) Rule Fault)
+    × (answer ≡ told_as reference outcome) × Counts s.keeper s'.keeper outcome × MayCome s reference bytes outcome
+
+-- answers that may come to the events in their order, each between what stands about it
+abbrev pub MayAnswers : Standing → List Event → List Answer → Standing → Type 0
+MayAnswers = Runs MayAnswer
 
 -- an answer that is not want of memory
 abbrev pub IsEnded : Answer → Type 0

@@ -2,16 +2,16 @@
 ghost use Rattle.std.specs.Prelude.{Some};
 ghost use Rattle.std.specs.Option.{option_copied};
 ghost use Rattle.eac_base.specs.Answers.{Answers};
-ghost use Rattle.policy_limits.specs.Lines.{pieces_left};
+ghost use Rattle.plain_text.specs.Lines.{pieces_left};
 ghost use Rattle.eac_cli.specs.LineGrammar.{rule_of, day_of, ask_of, ask_with, day_said, ask_said, event_of};
 
 use crate::event::Event;
-use crate::hex::read_hex;
 use crate::line_rule::{LineRefusal, LineRule};
 use cv_dates::day_from_text;
 use eac_base::{Octets, is_same};
 use holder_reference::{Reference, read_reference};
-use policy_limits::words::{are_words, cut, one_word, two_words};
+use plain_text::hexadecimal::read_bytes;
+use plain_text::words::{are_words, cut, one_word, two_words};
 use std::alloc::Global;
 
 /// The most bytes that HEX may say.
@@ -44,11 +44,10 @@ fn ask_of(alloc: Global, reference: &[u8], hex: &[u8]) -> Result<Event, LineRefu
     let Ok(reference) = read_reference(reference) else {
         return Err(LineRefusal::Rule(LineRule::Grammar));
     };
-    let bytes = read_hex(alloc, hex)?;
-    match ask_with(reference, bytes) {
-        Ok(event) => Ok(event),
-        Err(rule) => Err(LineRefusal::Rule(rule)),
-    }
+    let Some(bytes) = read_bytes(alloc, hex)? else {
+        return Err(LineRefusal::Rule(LineRule::Grammar));
+    };
+    Ok(ask_with(reference, bytes)?)
 }
 
 /// Reads what stands behind the word `day`.
@@ -80,10 +79,7 @@ pub fn read_event(alloc: Global, line: &[u8]) -> Result<Event, LineRefusal>
     }
     let (kind, rest) = cut(line);
     if is_same(kind, b"day") {
-        return match read_day(rest) {
-            Ok(event) => Ok(event),
-            Err(rule) => Err(LineRefusal::Rule(rule)),
-        };
+        return Ok(read_day(rest)?);
     }
     if is_same(kind, b"ask") {
         return read_ask(alloc, rest);

@@ -2,12 +2,16 @@
 ghost use Rattle.std.specs.Prelude.{◌≡◌};
 ghost use Rattle.eac_cli.specs.LineGrammar.{rule_number};
 
+use eac_base::NoMemory;
+
 /// The rule that a line of a script breaks. A line is tested by them in this order, and named by the first one.
 #[derive(Clone, Copy, Debug, PartialEq, Eq)]
 pub enum LineRule {
-    /// The line isn't in the grammar, or a setup line names a party that isn't in an earlier line or can't have that part.
+    /// The line isn't in the grammar, or a setup line names a party that isn't in an earlier line or can't have that
+    /// part.
     Grammar,
-    /// HEX says more than 4,096 bytes; days or a live limit are out of their limits, or it is the thousand-and-first party.
+    /// HEX says more than 4,096 bytes; days or a live limit are out of their limits, or it is the thousand-and-first
+    /// party.
     Limit,
     /// The holder is a party already, or registered at the desk already.
     Twice,
@@ -45,4 +49,24 @@ pub enum LineRefusal {
     Rule(LineRule),
     /// Memory is wanting.
     NoMemory,
+}
+
+impl From<LineRule> for LineRefusal {
+    ghost use Rattle.eac_cli.specs.declared.line_rule.LineRefusal.{LineRefusal};
+
+    ghost from_gives = { λ rule refusal. refusal ≡ LineRefusal.Rule rule };
+
+    fn from(rule: LineRule) -> Self {
+        LineRefusal::Rule(rule)
+    }
+}
+
+impl From<NoMemory> for LineRefusal {
+    ghost use Rattle.eac_cli.specs.declared.line_rule.LineRefusal.{LineRefusal};
+
+    ghost from_gives = { λ _ refusal. refusal ≡ LineRefusal.NoMemory };
+
+    fn from(_: NoMemory) -> Self {
+        LineRefusal::NoMemory
+    }
 }

@@ -1,12 +1,10 @@
-//! The program `eac`: desks and chips of Extended Access Control, run from a script.
+//! The program `eac`: the plain register, run from a script, and the showing of card-verifiable certificates.
 //!
 //! `main` makes the real outside (standard input and output, an empty keeper), calls [`tool::run_tool`] and ends with
 //! the number of its status. All that the program promises stands on that call.
 #![tactic(auto)]
 
-mod decimal;
 mod event;
-mod hex;
 mod journal;
 mod line_grammar;
 mod line_rule;
@@ -22,37 +20,41 @@ mod world;
 use eac_base::{StdSink, StdSource, Words};
 use keeper::{KeeperPlan, MemoryKeeper};
 use std::process::ExitCode;
+use std::rt::Env;
 use std::{env, io};
-use tool::{Report, Status, run_tool};
+use tool::{Status, run_tool};
 
-fn words_of<R: std::rt::Env + AllocGlobal>(rt: &R) -> Option<Words> {
+// The words of the call. No command has a word that isn't text, so such a word is answered as any other one that is
+// none of a command.
+fn words_of<R: Env + AllocGlobal>(rt: &R) -> Result<Words, Status> {
     let alloc = rt.alloc();
     let mut words = Words::new(alloc);
-    let args = env::args(rt).ok()?;
+    let args = match env::args(rt) {
+        Ok(args) => args,
+        Err(error) if error.kind() == io::ErrorKind::InvalidData => return Err(Status::Usage),
+        Err(_) => return Err(Status::NoMemory),
+    };
     for word in args.skip(1) {
-        words.push(word.as_bytes()).ok()?;
+        if words.push(word.as_bytes()).is_err() {
+            return Err(Status::NoMemory);
+        }
     }
-    Some(words)
+    Ok(words)
 }
 
 fn main(rt: HostRuntime) -> ExitCode {
     let alloc = rt.alloc();
-    let Some(words) = words_of(&rt) else {
-        let _ = eprintln!(rt; "no memory");
-        return ExitCode::from(9);
+    let status = match words_of(&rt) {
+        Ok(words) => {
+            let mut source = StdSource::new(rt.reader());
+            let mut sink = StdSink::new(io::writer(&rt));
+            let mut keeper = MemoryKeeper::new(alloc, KeeperPlan::new(alloc));
+            run_tool(alloc, &words, &mut source, &mut sink, &mut keeper).status
+        }
+        Err(status) => status,
     };
-    let mut source = StdSource::new(rt.reader());
-    let mut sink = StdSink::new(io::writer(&rt));
-    let mut keeper = MemoryKeeper::new(alloc, KeeperPlan::new(alloc));
-    let report = run_tool(alloc, &words, &mut source, &mut sink, &mut keeper);
-    let _ = match report.status {
-        Status::Done => Ok(()),
-        Status::Usage => eprintln!(rt; "usage: run | show"),
-        Status::ScriptFault { line, rule } => eprintln!(rt; "script line {line} rule {rule}"),
-        Status::TooLong => eprintln!(rt; "input too long"),
-        Status::ReadFault => eprintln!(rt; "read fault"),
-        Status::WriteFault => eprintln!(rt; "write fault"),
-        Status::NoMemory => eprintln!(rt; "no memory"),
-    };
-    ExitCode::from(report.status.number())
+    if status != Status::Done {
+        let _ = eprintln!(rt; "{status}");
+    }
+    ExitCode::from(status.number())
 }

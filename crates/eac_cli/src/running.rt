@@ -1,13 +1,13 @@
 // The loop over the lines of a script.
-ghost use Rattle.std.specs.Prelude.{◌≡◌, ◌<◌, ◌≤◌, None, Some, Err, IfSome};
-ghost use Rattle.eac_base.specs.Causes.{Rose};
+ghost use Rattle.std.specs.Prelude.{◌≡◌, None, IfSome};
+ghost use Rattle.eac_cli.specs.Objects.{run_objects};
 ghost use Rattle.eac_cli.specs.Script.{later_day};
 ghost use Rattle.eac_cli.specs.Turn.{Answer};
-ghost use Rattle.eac_cli.specs.Steps.{MayRun, MayRunAll, Steps, Lined, Sent};
+ghost use Rattle.eac_cli.specs.Steps.{MayRun, MayRunAll, Steps, Lined, Sent, moment};
 ghost use Rattle.eac_cli.specs.Top.{Whole, Stopped};
 
 use crate::event::{Event, EventLine};
-use crate::journal::numbered_line;
+use crate::journal::push_head;
 use crate::world::{World, step};
 use eac_base::{Failed, NoMemory, Octets, Sink, write_all};
 use keeper::Keeper;
@@ -29,14 +29,20 @@ fn event_line<B: Keeper>(
 ) -> Result<Octets, NoMemory>
     requires { MayRun world.old.day line.now.event }
     ensures day { world.new.day ≡ later_day world.old.day line.now.event }
-    ensures ran { (answer : Answer) × Steps line.now.event answer world.old.day world.new.day (B.rows keeper.old) (B.rows keeper.new) (B.faults keeper.old) (B.faults keeper.new) × Lined line.now.line result answer }
+    ensures ran { (answer : Answer) × Lined line.now.line result answer
+        × Steps line.now.event answer (moment B.Keeper world.old.day keeper.old)
+        (moment B.Keeper world.new.day keeper.new) }
 {
     let mut text = Octets::new(alloc);
-    step(alloc, world, &line.event, keeper, &mut text)?;
     match &line.event {
-        Event::Day { .. } => Ok(text),
-        Event::Ask { .. } => numbered_line(alloc, line.line, text.as_slice()),
+        Event::Day { .. } => step(alloc, world, &line.event, keeper, &mut text)?,
+        Event::Ask { .. } => {
+            push_head(alloc, &mut text, line.line)?;
+            step(alloc, world, &line.event, keeper, &mut text)?;
+            text.push_all(b"\n")?;
+        }
     }
+    Ok(text)
 }
 
 // Runs one event, and writes its journal line.
@@ -49,9 +55,11 @@ fn run_line<K: Sink, B: Keeper>(
 ) -> Result<(), Stop>
     requires { MayRun world.old.day line.now.event }
     ensures day { world.new.day ≡ later_day world.old.day line.now.event }
-    ensures ran { (answer : Answer) × Steps line.now.event answer world.old.day world.new.day (B.rows keeper.old) (B.rows keeper.new) (B.faults keeper.old) (B.faults keeper.new) × Sent line.now.line result answer (K.taken sink.old) (K.taken sink.new) }
-    ensures write { result ≡ Err Stop.WriteFault → Rose (K.faults sink.old) (K.faults sink.new) }
-    ensures later { K.faults sink.old ≤ K.faults sink.new }
+    ensures ran { (answer : Answer)
+        × Sent line.now.line result answer (run_objects K.Stream B.Keeper sink.old keeper.old)
+        (run_objects K.Stream B.Keeper sink.new keeper.new)
+        × Steps line.now.event answer (moment B.Keeper world.old.day keeper.old)
+        (moment B.Keeper world.new.day keeper.new) }
 {
     let Ok(text) = event_line(alloc, world, line, keeper) else {
         return Err(Stop::NoMemory);
@@ -71,9 +79,10 @@ pub fn run_lines<K: Sink, B: Keeper>(
     keeper: &mut B,
 ) -> (u64, Option<Stop>)
     requires { MayRunAll None lines.now }
-    ensures whole { result.1 ≡ None → Whole (B.rows keeper.old) (B.rows keeper.new) (B.faults keeper.old) (B.faults keeper.new) (K.taken sink.old) (K.taken sink.new) lines.now result.0 }
-    ensures stopped { IfSome result.1 (λ stop. Stopped (B.rows keeper.old) (B.rows keeper.new) (B.faults keeper.old) (B.faults keeper.new) (K.taken sink.old) (K.taken sink.new) stop lines.now result.0) }
-    ensures write { result.1 ≡ Some Stop.WriteFault → Rose (K.faults sink.old) (K.faults sink.new) }
+    ensures whole { result.1 ≡ None → Whole (run_objects K.Stream B.Keeper sink.old keeper.old)
+        (run_objects K.Stream B.Keeper sink.new keeper.new) lines.now result.0 }
+    ensures stopped { IfSome result.1 (λ stop. Stopped (run_objects K.Stream B.Keeper sink.old keeper.old)
+        (run_objects K.Stream B.Keeper sink.new keeper.new) stop lines.now result.0) }
 {
     let mut world = World::new();
     let mut done: u64 = 0;

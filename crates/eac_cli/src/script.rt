@@ -2,13 +2,15 @@
 ghost use Rattle.std.specs.Prelude.{◌≡◌, [], ◌∷◌, ◌++◌, length, None, Ok, IfOk, IfErr, OnOk};
 ghost use Rattle.policy_limits.specs.SetupText.{with_line};
 ghost use Rattle.eac_cli.specs.LineGrammar.{event_of, rule_of};
-ghost use Rattle.eac_cli.specs.Script.{IsScript, FaultOf, Alone, line_of, events_of, later_day, day_after, setup_rule, late_rule, setup_rule_behind, order_rule, count_rule, rule_behind, event_rule_behind, broken_behind, refused_at, Takes, Breaks};
+ghost use Rattle.eac_cli.specs.Script.{IsScript, FaultOf, Alone, line_of, events_of, later_day, day_after};
+ghost use Rattle.eac_cli.specs.Script.{setup_rule, late_rule, setup_rule_behind, order_rule, count_rule, rule_behind};
+ghost use Rattle.eac_cli.specs.Script.{event_rule_behind, broken_behind, refused_at, Takes, Breaks};
 
 use crate::event::{Event, EventLine, EventLines};
 use crate::line_grammar::read_event;
 use crate::line_rule::{LineRefusal, LineRule};
 use cv_dates::Day;
-use policy_limits::lines::next_numbered;
+use plain_text::lines::next_numbered;
 use policy_limits::{Setup, SetupRefusal, is_setup_line, take_line};
 use std::alloc::Global;
 
@@ -107,7 +109,8 @@ fn setup_refused(refusal: SetupRefusal) -> LineRefusal
 fn take_setup(setup: &mut Setup, events: usize, line: u64, text: &[u8]) -> Result<(), LineRefusal>
     ensures taken { OnOk result (with_line setup.old (line, text.now) ≡ Ok setup.new) }
     ensures in_place { OnOk result (late_rule events ≡ None) }
-    ensures refused { IfErr result (λ refusal. Breaks refusal (setup_rule_behind (Ok setup.old) events (line, text.now))) }
+    ensures refused { IfErr result (λ refusal.
+        Breaks refusal (setup_rule_behind (Ok setup.old) events (line, text.now))) }
 {
     if let Err(refusal) = take_line(setup, line, text) {
         return Err(setup_refused(refusal));
@@ -129,7 +132,8 @@ fn take_event(
     ensures fine { OnOk result (event_rule_behind today.old (length events.old) (event_of text.now) ≡ None) }
     ensures day { OnOk result (today.new ≡ day_after today.old ((line, Alone (event_of text.now)) ∷ [])) }
     ensures events { OnOk result (events.new ≡ events.old ++ events_of ((line, Alone (event_of text.now)) ∷ [])) }
-    ensures refused { IfErr result (λ refusal. Breaks refusal (event_rule_behind today.old (length events.old) (event_of text.now))) }
+    ensures refused { IfErr result (λ refusal.
+        Breaks refusal (event_rule_behind today.old (length events.old) (event_of text.now))) }
 {
     let event = read_event(alloc, text)?;
     if let Some(rule) = rule_behind(today, events.len(), &event) {
@@ -150,8 +154,10 @@ fn take(
     line: u64,
     text: &[u8],
 ) -> Result<(), LineRefusal>
-    ensures taken { OnOk result (Takes (line_of (line, text.now)) script.old.setup script.new.setup today.old today.new script.old.events script.new.events) }
-    ensures refused { IfErr result (λ refusal. Breaks refusal (broken_behind (Ok script.old.setup) today.old (length script.old.events) (line_of (line, text.now)))) }
+    ensures taken { OnOk result (Takes (line_of (line, text.now)) script.old.setup script.new.setup today.old today.new
+        script.old.events script.new.events) }
+    ensures refused { IfErr result (λ refusal. Breaks refusal
+        (broken_behind (Ok script.old.setup) today.old (length script.old.events) (line_of (line, text.now)))) }
 {
     if is_setup_line(text) {
         take_setup(&mut script.setup, script.events.len(), line, text)

@@ -1,5 +1,6 @@
 // What holds of every script and of every fault.
-ghost use Rattle.eac_cli.specs.ScriptLaws.{ScriptsAreFine, FaultIsOne, EventsAreOne, SetupIsOne, SetupsAreScripts, SetupsComeFirst, ScriptsAreInOrder, ScriptsAreShort};
+ghost use Rattle.eac_cli.specs.ScriptLaws.{ScriptsAreFine, FaultIsOne, EventsAreOne, SetupIsOne, SetupsAreScripts};
+ghost use Rattle.eac_cli.specs.ScriptLaws.{SetupsComeFirst, ScriptsAreInOrder, ScriptsAreShort};
 
 /// Bytes that are a script have no fault.
 pub fn scripts_have_no_fault()

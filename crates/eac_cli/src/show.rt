@@ -3,13 +3,14 @@ ghost use Rattle.std.specs.Prelude.{◌≡◌, ◌++◌, length, codes, IfOk, On
 ghost use Rattle.std.specs.Fmt.{decimal};
 ghost use Rattle.cv_dates.specs.Calendar.{day_text};
 ghost use Rattle.cvc_grammar.specs.Views.{seen_cert};
-ghost use Rattle.eac_cli.specs.Show.{field_line, fields_text, role_word, algorithm_text, size_or_none, names_of, dates_of, key_of, fields_of, place_text, refused_text, show_text};
+ghost use Rattle.eac_cli.specs.Show.{field_line, fields_text, role_word, algorithm_text, size_or_none, names_of};
+ghost use Rattle.eac_cli.specs.Show.{dates_of, key_of, fields_of, place_text, refused_text, show_text};
 
-use crate::decimal::push_number;
 use chat_rights::{Role, rights_text};
 use cv_dates::{Day, day_text};
 use cvc_grammar::{CertView, CvcRefusal, view_cert};
 use eac_base::{NoMemory, Octets};
+use plain_text::decimal::push_number;
 use signature_provider::Algorithm;
 use std::alloc::Global;
 
@@ -69,7 +70,8 @@ fn push_extensions(
     out: &mut Octets,
     extensions: Option<&[u8]>,
 ) -> Result<(), NoMemory>
-    ensures { OnOk result (out.new ≡ out.old ++ field_line (codes "extensions", size_or_none (option_map (λ e. e.now) extensions.entry))) }
+    ensures { OnOk result (out.new ≡ out.old
+        ++ field_line (codes "extensions", size_or_none (option_map (λ e. e.now) extensions.entry))) }
 {
     match extensions {
         Some(bytes) => push_size(alloc, out, b"extensions", bytes),

@@ -2,10 +2,10 @@
 //
 // The tool is called at one place, `call_over`, which gives plain values. Owned values are let go by a call of `drop`:
 // at the end of a scope, and at each `?`, every part of them would be proved apart.
-ghost use Rattle.std.specs.Prelude.{◌≤◌, ◌<◌, Some};
+ghost use Rattle.std.specs.Prelude.{◌≤◌, ◌<◌, Some, None};
 
 use crate::tool::{Report, Status, run_tool};
-use eac_base::{FailPlan, Failed, MemorySink, MemorySource, Octets, Sink, Source, Words};
+use eac_base::{FailPlan, Failed, MemorySink, MemorySource, Octets, Sink, Stream, Words};
 use keeper::{KeeperPlan, MemoryKeeper, Moment};
 use std::alloc::Global;
 use std::process::Abort;
@@ -27,11 +27,19 @@ struct Dripping {
     sink: MemorySink,
 }
 
-impl Sink for Dripping {
+impl Stream for Dripping {
+    ghost left = { λ _. None };
+
+    ghost faults = { λ _. 0 };
+
+    ghost reads = { λ _. None };
+
     ghost taken = { λ s. Some s.sink.taken };
 
-    ghost faults = { λ s. s.sink.faults };
+    ghost lost = { λ s. s.sink.faults };
+}
 
+impl Sink for Dripping {
     fn write(&mut self, from: &[u8]) -> Result<usize, Failed> {
         match from {
             [first, ..] => self.sink.write(&[*first]),
@@ -188,7 +196,8 @@ fn scripts_have_these_journals(rt: HostRuntime) {
         (b"day 240101\nday 240101\n", 2, b""),
         // a setup changes nothing but the numbers of lines
         (
-            b"cvca DECVCA ec 03 1096\ndv DEDVBUND\nregister DECVCA DEDVBUND domestic 03 90 3 bare\nday 240101\nask DEDVBUND00001 0102\n",
+            b"cvca DECVCA ec 03 1096\ndv DEDVBUND\nregister DECVCA DEDVBUND domestic 03 90 3 bare\n\
+              day 240101\nask DEDVBUND00001 0102\n",
             2,
             b"5: issued DEDVBUND00001 240101\n",
         ),
@@ -226,8 +235,8 @@ fn the_first_fault_is_told_with_its_least_rule(rt: HostRuntime) {
 }
 
 // An authority, a verifier with a registration there, and an inspection system: five lines, with a comment.
-const FIVE: &[u8] =
-    b"cvca DECVCA ec 03 1096\n# parties\ndv DEDVBUND\nterminal DEIS00001\nregister DECVCA DEDVBUND domestic 03 90 3 bare\n";
+const FIVE: &[u8] = b"cvca DECVCA ec 03 1096\n# parties\ndv DEDVBUND\nterminal DEIS00001\n\
+      register DECVCA DEDVBUND domestic 03 90 3 bare\n";
 
 // What stands behind those five lines, the first line that breaks a rule, and the least rule that it breaks.
 const BEHIND_FIVE: [(&[u8], u64, u8); 46] = [
@@ -387,7 +396,8 @@ const FOUNDING: &[u8] = &[
 ];
 
 const FOUNDING_SHOWN: &[u8] =
-    b"authority DECVCA00001\nholder DECVCA00001\nrole cvca\nrights 03\nfrom 240101\nuntil 270101\nalgorithm 2.3\ndomain 15\npoint 8\nextensions none\nsignature 64\n";
+    b"authority DECVCA00001\nholder DECVCA00001\nrole cvca\nrights 03\nfrom 240101\nuntil 270101\n\
+      algorithm 2.3\ndomain 15\npoint 8\nextensions none\nsignature 64\n";
 
 // Shows an input, of which this text has to be printed.
 fn show(rt: &impl Abort, alloc: Global, input: &[u8], text: &[u8]) -> (Status, u64) {

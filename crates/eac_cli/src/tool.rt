@@ -1,10 +1,12 @@
 // The top call.
-ghost use Rattle.std.specs.Prelude.{◌≡◌, ◌≢◌, ℕ, ◌<◌, ◌≤◌, List, [], length, None, Some, Err, IfSome};
+ghost use Rattle.std.specs.Prelude.{◌≡◌, ◌≢◌, ℕ, ◌≤◌, List, [], length, None, Some, IfSome};
 ghost use Rattle.std.specs.declared.option.Option.{Option};
 ghost use Rattle.std.specs.Io.KnownBytes.{Consumes, IsAtEnd};
 ghost use Rattle.eac_base.specs.Causes.{Rose};
-ghost use Rattle.eac_cli.specs.Objects.{objects};
-ghost use Rattle.eac_cli.specs.Top.{command_named, command_of, most_input, Shows, IsShown, Claim, IsComplete, TellsFault, TellsLength, RunCall, ShowCall, IsRunStatus, status_of, number_of_status};
+ghost use Rattle.eac_cli.specs.Objects.{Objects, objects, run_objects, ReadFailed, WriteFailed};
+ghost use Rattle.eac_cli.specs.Top.{command_named, command_of, most_input, Claim, Shows, IsShown, IsComplete};
+ghost use Rattle.eac_cli.specs.Top.{TellsFault, TellsLength, RunCall, ShowCall, WereRead, RoseFor, RunsNothing};
+ghost use Rattle.eac_cli.specs.Top.{IsRunStatus, status_of, number_of_status};
 
 use crate::running::{Stop, run_lines};
 use crate::script::{ScriptRefusal, read_script};
@@ -12,6 +14,7 @@ use crate::show::show_text;
 use eac_base::{Acks, Failed, ReadRefusal, Sink, Source, Words, is_same, read_all, write_all};
 use keeper::Keeper;
 use std::alloc::Global;
+use std::fmt;
 
 /// How a call ended.
 #[derive(Clone, Copy, Debug, PartialEq, Eq)]
@@ -20,7 +23,8 @@ pub enum Status {
     Done,
     /// The words are none of a command. Nothing was read, run or written.
     Usage,
-    /// This line is the first that breaks a rule of scripts, and this is the least rule that it breaks. Nothing was run.
+    /// This line is the first that breaks a rule of scripts, and this is the least rule that it breaks. Nothing was
+    /// run.
     ScriptFault { line: u64, rule: u8 },
     /// The source gave more than 4,194,304 bytes. Nothing was run or written.
     TooLong,
@@ -45,6 +49,20 @@ impl Status {
             Status::ReadFault => 4,
             Status::WriteFault => 5,
             Status::NoMemory => 9,
+        }
+    }
+}
+
+impl fmt::Display for Status {
+    fn fmt<W: fmt::Write>(&self, f: &mut fmt::Formatter<W>) -> fmt::Result {
+        match self {
+            Status::Done => f.write_str("done"),
+            Status::Usage => f.write_str("usage: run | show"),
+            Status::ScriptFault { line, rule } => write!(f, "script line {line} rule {rule}"),
+            Status::TooLong => f.write_str("input too long"),
+            Status::ReadFault => f.write_str("read fault"),
+            Status::WriteFault => f.write_str("write fault"),
+            Status::NoMemory => f.write_str("no memory"),
         }
     }
 }
@@ -95,7 +113,7 @@ fn command_of(words: &Words) -> Option<Command>
 }
 
 fn reported(alloc: Global, status: Status, done: u64) -> Report
-    ensures { (result.status ≡ status) × (result.done ≡ done) × (result.acks ≡ []) }
+    ensures { (result.status ≡ status) × (result.done ≡ done) × (result.acks.acks ≡ []) }
 {
     Report {
         status,
@@ -123,8 +141,10 @@ fn run_bytes<K: Sink, B: Keeper>(
     keeper: &mut B,
 ) -> (Status, u64)
     requires { length bytes.now ≤ most_input }
-    ensures claim { (left : Option (List ℕ)) → IsAtEnd left → Claim (B.rows keeper.old) (B.rows keeper.new) (B.faults keeper.old) (B.faults keeper.new) (K.taken sink.old) (K.taken sink.new) left result.0 result.1 bytes.now }
-    ensures cause { IsRunStatus result.0 (K.faults sink.old) (K.faults sink.new) }
+    ensures claim { (left : Option (List ℕ)) → IsAtEnd left → Claim (run_objects K.Stream B.Keeper sink.old keeper.old)
+        (run_objects K.Stream B.Keeper sink.new keeper.new) left result.0 result.1 bytes.now }
+    ensures cause { IsRunStatus result.0 (K.lost sink.old) (K.lost sink.new) }
+    ensures nothing { RunsNothing result.0 → (sink.new ≡ sink.old) × (keeper.new ≡ keeper.old) }
 {
     let script = match read_script(alloc, bytes) {
         Ok(script) => script,
@@ -144,9 +164,13 @@ fn read_and_run<S: Source, K: Sink, B: Keeper>(
     sink: &mut K,
     keeper: &mut B,
 ) -> (Status, u64)
-    ensures claim { (bytes : List ℕ) × Consumes (S.left source.old) (S.left source.new) bytes × Claim (B.rows keeper.old) (B.rows keeper.new) (B.faults keeper.old) (B.faults keeper.new) (K.taken sink.old) (K.taken sink.new) (S.left source.new) result.0 result.1 bytes }
-    ensures read { result.0 ≡ Status.ReadFault → Rose (S.faults source.old) (S.faults source.new) }
-    ensures write { result.0 ≡ Status.WriteFault → Rose (K.faults sink.old) (K.faults sink.new) }
+    ensures claim { (bytes : List ℕ)
+        × WereRead (S.left source.old) (S.left source.new) (S.reads source.old) (S.reads source.new) bytes
+        × Claim (run_objects K.Stream B.Keeper sink.old keeper.old) (run_objects K.Stream B.Keeper sink.new keeper.new)
+        (S.left source.new) result.0 result.1 bytes }
+    ensures nothing { RunsNothing result.0 → (sink.new ≡ sink.old) × (keeper.new ≡ keeper.old) }
+    ensures read { RoseFor Status.ReadFault result.0 (S.faults source.old) (S.faults source.new) }
+    ensures write { RoseFor Status.WriteFault result.0 (K.lost sink.old) (K.lost sink.new) }
     ensures not_usage { result.0 ≢ Status.Usage }
 {
     match read_all(alloc, source, MOST_INPUT) {
@@ -164,12 +188,11 @@ fn run_source<S: Source, K: Sink, B: Keeper>(
     sink: &mut K,
     keeper: &mut B,
 ) -> (Status, u64)
-    ensures claim { (bytes : List ℕ) × Consumes (S.left source.old) (S.left source.new) bytes × Claim (B.rows keeper.old) (B.rows keeper.new) (B.faults keeper.old) (B.faults keeper.new) (K.taken sink.old) (K.taken sink.new) (S.left source.new) result.0 result.1 bytes }
-    ensures complete { IfSome (S.left source.old) (λ bytes. IsComplete bytes (Rose (S.faults source.old) (S.faults source.new)) (Rose (K.faults sink.old) (K.faults sink.new)) result.0) }
-    ensures faulty { IfSome (S.left source.old) (λ bytes. TellsFault bytes (Rose (S.faults source.old) (S.faults source.new)) result.0) }
-    ensures too_long { IfSome (S.left source.old) (λ bytes. TellsLength bytes (Rose (S.faults source.old) (S.faults source.new)) result.0) }
-    ensures read { result.0 ≡ Status.ReadFault → Rose (S.faults source.old) (S.faults source.new) }
-    ensures write { result.0 ≡ Status.WriteFault → Rose (K.faults sink.old) (K.faults sink.new) }
+    ensures call { RunCall (objects S.Stream K.Stream B.Keeper source.old sink.old keeper.old)
+        (objects S.Stream K.Stream B.Keeper source.new sink.new keeper.new) result.0 result.1 }
+    ensures nothing { RunsNothing result.0 → (sink.new ≡ sink.old) × (keeper.new ≡ keeper.old) }
+    ensures read { RoseFor Status.ReadFault result.0 (S.faults source.old) (S.faults source.new) }
+    ensures write { RoseFor Status.WriteFault result.0 (K.lost sink.old) (K.lost sink.new) }
     ensures not_usage { result.0 ≢ Status.Usage }
 {
     read_and_run(alloc, source, sink, keeper)
@@ -178,8 +201,9 @@ fn run_source<S: Source, K: Sink, B: Keeper>(
 // Prints what these bytes are.
 fn show_bytes<K: Sink>(alloc: Global, bytes: &[u8], sink: &mut K) -> Status
     requires { length bytes.now ≤ most_input }
-    ensures shows { (left : Option (List ℕ)) → IsAtEnd left → Shows (K.taken sink.old) (K.taken sink.new) left result bytes.now }
-    ensures cause { IsRunStatus result (K.faults sink.old) (K.faults sink.new) }
+    ensures shows { (left : Option (List ℕ)) → IsAtEnd left
+        → Shows (K.taken sink.old) (K.taken sink.new) left result bytes.now }
+    ensures cause { IsRunStatus result (K.lost sink.old) (K.lost sink.new) }
 {
     let Ok(text) = show_text(alloc, bytes) else {
         return Status::NoMemory;
@@ -192,9 +216,12 @@ fn show_bytes<K: Sink>(alloc: Global, bytes: &[u8], sink: &mut K) -> Status
 
 // Reads the source, and prints what it has.
 fn read_and_show<S: Source, K: Sink>(alloc: Global, source: &mut S, sink: &mut K) -> Status
-    ensures shows { (bytes : List ℕ) × Consumes (S.left source.old) (S.left source.new) bytes × Shows (K.taken sink.old) (K.taken sink.new) (S.left source.new) result bytes }
-    ensures read { result ≡ Status.ReadFault → Rose (S.faults source.old) (S.faults source.new) }
-    ensures write { result ≡ Status.WriteFault → Rose (K.faults sink.old) (K.faults sink.new) }
+    ensures shows { (bytes : List ℕ)
+        × WereRead (S.left source.old) (S.left source.new) (S.reads source.old) (S.reads source.new) bytes
+        × Shows (K.taken sink.old) (K.taken sink.new) (S.left source.new) result bytes }
+    ensures nothing { RunsNothing result → sink.new ≡ sink.old }
+    ensures read { RoseFor Status.ReadFault result (S.faults source.old) (S.faults source.new) }
+    ensures write { RoseFor Status.WriteFault result (K.lost sink.old) (K.lost sink.new) }
     ensures not_usage { result ≢ Status.Usage }
 {
     match read_all(alloc, source, MOST_INPUT) {
@@ -207,11 +234,16 @@ fn read_and_show<S: Source, K: Sink>(alloc: Global, source: &mut S, sink: &mut K
 
 // The same, and what it owes to a source that tells its bytes.
 fn show_source<S: Source, K: Sink>(alloc: Global, source: &mut S, sink: &mut K) -> Status
-    ensures shows { (bytes : List ℕ) × Consumes (S.left source.old) (S.left source.new) bytes × Shows (K.taken sink.old) (K.taken sink.new) (S.left source.new) result bytes }
-    ensures shown { IfSome (S.left source.old) (λ bytes. IsShown bytes (Rose (S.faults source.old) (S.faults source.new)) (Rose (K.faults sink.old) (K.faults sink.new)) result) }
-    ensures too_long { IfSome (S.left source.old) (λ bytes. TellsLength bytes (Rose (S.faults source.old) (S.faults source.new)) result) }
-    ensures read { result ≡ Status.ReadFault → Rose (S.faults source.old) (S.faults source.new) }
-    ensures write { result ≡ Status.WriteFault → Rose (K.faults sink.old) (K.faults sink.new) }
+    ensures shows { (bytes : List ℕ)
+        × WereRead (S.left source.old) (S.left source.new) (S.reads source.old) (S.reads source.new) bytes
+        × Shows (K.taken sink.old) (K.taken sink.new) (S.left source.new) result bytes }
+    ensures shown { IfSome (S.left source.old) (λ bytes. IsShown bytes
+        (Rose (S.faults source.old) (S.faults source.new)) (Rose (K.lost sink.old) (K.lost sink.new)) result) }
+    ensures too_long { IfSome (S.left source.old) (λ bytes. TellsLength bytes
+        (Rose (S.faults source.old) (S.faults source.new)) result) }
+    ensures nothing { RunsNothing result → sink.new ≡ sink.old }
+    ensures read { RoseFor Status.ReadFault result (S.faults source.old) (S.faults source.new) }
+    ensures write { RoseFor Status.WriteFault result (K.lost sink.old) (K.lost sink.new) }
     ensures not_usage { result ≢ Status.Usage }
 {
     read_and_show(alloc, source, sink)
@@ -233,16 +265,22 @@ pub fn run_tool<S: Source, K: Sink, B: Keeper>(
 ) -> Report
     // `Usage` exactly where the words are none of a command; then nothing was asked of the outside.
     ensures usage { result.status ≡ Status.Usage → command_of words.now ≡ None }
-    ensures other_words { command_of words.now ≡ None → (result.status ≡ Status.Usage) × (result.done ≡ 0) × (source.new ≡ source.old) × (sink.new ≡ sink.old) × (keeper.new ≡ keeper.old) }
+    ensures other_words { command_of words.now ≡ None
+        → (result.status ≡ Status.Usage) × (result.done ≡ 0) × (source.new ≡ source.old) }
     // What a command did, from the objects before the call to those after it.
-    ensures run { command_of words.now ≡ Some Command.Run → RunCall (objects S.Source K.Sink B.Keeper source.old sink.old keeper.old) (objects S.Source K.Sink B.Keeper source.new sink.new keeper.new) result.status result.done }
-    ensures show { command_of words.now ≡ Some Command.Show → ShowCall (objects S.Source K.Sink B.Keeper source.old sink.old keeper.old) (objects S.Source K.Sink B.Keeper source.new sink.new keeper.new) result.status }
-    // `show` asks for no row.
+    ensures run { command_of words.now ≡ Some Command.Run
+        → RunCall (objects S.Stream K.Stream B.Keeper source.old sink.old keeper.old)
+        (objects S.Stream K.Stream B.Keeper source.new sink.new keeper.new) result.status result.done }
+    ensures show { command_of words.now ≡ Some Command.Show
+        → ShowCall (objects S.Stream K.Stream B.Keeper source.old sink.old keeper.old)
+        (objects S.Stream K.Stream B.Keeper source.new sink.new keeper.new) result.status }
+    // `show` asks for no row, and an input that isn't run leaves sink and keeper alone.
     ensures show_keeps { command_of words.now ≡ Some Command.Show → (result.done ≡ 0) × (keeper.new ≡ keeper.old) }
-    // A failure of the outside is told only where that object counted one.
-    ensures read { result.status ≡ Status.ReadFault → Rose (S.faults source.old) (S.faults source.new) }
-    ensures write { result.status ≡ Status.WriteFault → Rose (K.faults sink.old) (K.faults sink.new) }
-    ensures acks { result.acks ≡ [] }
+    ensures nothing { RunsNothing result.status → (sink.new ≡ sink.old) × (keeper.new ≡ keeper.old) }
+    // A failure of the outside is told just where that object counted one.
+    ensures read { RoseFor Status.ReadFault result.status (S.faults source.old) (S.faults source.new) }
+    ensures write { RoseFor Status.WriteFault result.status (K.lost sink.old) (K.lost sink.new) }
+    ensures acks { result.acks.acks ≡ [] }
 {
     match command_of(words) {
         None => reported(alloc, Status::Usage, 0),

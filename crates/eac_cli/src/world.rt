@@ -2,10 +2,10 @@
 ghost use Rattle.std.specs.Prelude.{◌≡◌, ◌≤◌, Some, length};
 ghost use Rattle.eac_cli.specs.Script.{later_day};
 ghost use Rattle.eac_cli.specs.Turn.{Answer};
-ghost use Rattle.eac_cli.specs.Steps.{MayRun, Steps, Said};
+ghost use Rattle.eac_cli.specs.Steps.{MayRun, Steps, Said, moment};
 
 use crate::event::Event;
-use crate::journal::outcome_text;
+use crate::journal::push_outcome;
 use cv_dates::{Day, day_text};
 use eac_base::{NoMemory, Octets};
 use holder_reference::Reference;
@@ -38,20 +38,19 @@ fn ask<B: Keeper>(
     line: &mut Octets,
 ) -> Result<(), NoMemory>
     requires { length bytes.now ≤ 4096 }
-    ensures { (answer : Answer) × Steps (Event.Ask reference.now bytes.now) answer (Some day) (Some day) (B.rows keeper.old) (B.rows keeper.new) (B.faults keeper.old) (B.faults keeper.new) × Said result answer line.old line.new }
+    ensures { (answer : Answer) × Said result answer line.old line.new
+        × Steps (Event.Ask reference.now bytes.now) answer (moment B.Keeper (Some day) keeper.old)
+        (moment B.Keeper (Some day) keeper.new) }
 {
     let answer = register(alloc, day_text(day), reference, bytes, keeper);
-    let Some(text) = outcome_text(alloc, reference, &answer) else {
-        return Err(NoMemory);
-    };
-    line.push_all(text.as_slice())
+    push_outcome(alloc, line, reference, &answer)
 }
 
 /// Runs one event, and appends the text of its answer.
 ///
 /// # Errors
 ///
-/// [`NoMemory`]: nothing was appended, and the rows are as after a front of the event's writes.
+/// [`NoMemory`]: the rows are as after a front of the event's writes, and a front of the text may be in the line.
 pub fn step<B: Keeper>(
     alloc: Global,
     world: &mut World,
@@ -61,7 +60,8 @@ pub fn step<B: Keeper>(
 ) -> Result<(), NoMemory>
     requires { MayRun world.old.day event.now }
     ensures day { world.new.day ≡ later_day world.old.day event.now }
-    ensures ran { (answer : Answer) × Steps event.now answer world.old.day world.new.day (B.rows keeper.old) (B.rows keeper.new) (B.faults keeper.old) (B.faults keeper.new) × Said result answer line.old line.new }
+    ensures ran { (answer : Answer) × Said result answer line.old line.new
+        × Steps event.now answer (moment B.Keeper world.old.day keeper.old) (moment B.Keeper world.new.day keeper.new) }
 {
     match event {
         Event::Day { day } => {

@@ -1,7 +1,11 @@
-use Rattle.std.proofs.Common.{◌∙◌, ℕ, List, ◌++◌, ap}
-use Rattle.eac_cli.specs.Journal.{answer_text}
-use Rattle.eac_cli.proofs.Turning.{ask_lined}
+use Rattle.eac_cli.specs.Turn.{Memory}
+use Rattle.eac_cli.proofs.Turning.{unasked, unheard_too, no_line}
 use Rattle.eac_cli.proofs.running.event_line.Goals as goal
 
-pub returns-in-Ask-clause-ran : goal.returns-in-Ask-clause-ran
-returns-in-Ask-clause-ran g c = ask_lined c.args.line.now c.in-Ask.reference c.in-Ask.bytes _ _ _ _ _ _ c.as_slice.result.now c.numbered_line.result c.in-Ask.is (let said = c.in_ok-step.ensures.ran in (said.0, said.1, (said.2.0, c.as_slice.ensures ∙ said.2.1 ∙ ap (λ (l : List ℕ). l ++ answer_text said.0) c.new-text.ensures))) c.numbered_line.ensures
+pub returns-in_err-push_head-in-Ask-clause-ran : goal.returns-in_err-push_head-in-Ask-clause-ran
+returns-in_err-push_head-in-Ask-clause-ran g c = (Memory, no_line _ _ c.from_residual-in_err-push_head-in-Ask.ensures.0, unasked _ c.in-Ask.reference c.in-Ask.bytes _ c.in-Ask.is c.requires)
+
+pub returns-in_err-push_all-in-Ask-clause-ran : goal.returns-in_err-push_all-in-Ask-clause-ran
+returns-in_err-push_all-in-Ask-clause-ran g c =
+    let ran = c.step-in-Ask.ensures.ran in
+    (Memory, no_line _ _ c.from_residual-in_err-push_all-in-Ask.ensures.0, unheard_too _ c.in-Ask.reference c.in-Ask.bytes ran.0 _ _ c.in-Ask.is ran.2)

@@ -1,8 +1,8 @@
-use Rattle.eac_cli.proofs.Ends.{run_call, show_call}
+use Rattle.eac_cli.proofs.Ends.{run_reported, show_call}
 use Rattle.eac_cli.proofs.tool.run_tool.Goals as goal
 
 pub returns-in-Some-Run-clause-run : goal.returns-in-Some-Run-clause-run
-returns-in-Some-Run-clause-run g c words = run_call _ _ c.run_source-status.result.0 _ c.run_source-status.result.1 _ c.reported-in-Some-Run.ensures.0 c.reported-in-Some-Run.ensures.1 c.run_source-status.ensures.claim c.run_source-status.ensures.complete c.run_source-status.ensures.faulty c.run_source-status.ensures.too_long
+returns-in-Some-Run-clause-run g c words = run_reported _ _ c.run_source-status.result.0 _ c.run_source-status.result.1 _ c.reported-in-Some-Run.ensures.0 c.reported-in-Some-Run.ensures.1 c.run_source-status.ensures.call
 
 pub returns-in-Some-Show-clause-show : goal.returns-in-Some-Show-clause-show
 returns-in-Some-Show-clause-show g c words = show_call _ _ c.show_source-status.result _ c.reported-in-Some-Show.ensures.0 c.show_source-status.ensures.shows c.show_source-status.ensures.shown c.show_source-status.ensures.too_long
