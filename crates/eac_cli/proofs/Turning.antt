@@ -1,6 +1,6 @@
 -- One event: its answer, its turn, and what is said of it.
 use Rattle.std.proofs.Common.{◌≡◌, ℕ, ◌≤◌, List, [], ◌∷◌, ◌++◌, Some, None, Ok, Err, refl, sym, ap, ◌∙◌, subst, arith, append-nil}
-use Rattle.std.specs.Prelude.{OnOk, IfOk, IsSome, IsErr}
+use Rattle.std.specs.Prelude.{OnOk, OnErr, IfOk, IsSome, IsErr}
 use Rattle.std.specs.declared.option.Option.{Option}
 use Rattle.std.specs.declared.result.Result.{Result}
 use Rattle.cv_dates.specs.Calendar.{day_text}
@@ -98,17 +98,17 @@ module _ (reference bytes : List ℕ) (day : ℕ) where
   counts before now (Err FaultNoMemory) h = h.later
 
   -- The register was asked, and its answer was appended. Where memory was wanting for that, it is an asking that nobody heard.
-  pub was_said : {E : Type 0} (rows rows' : Option (List Row)) (before now : ℕ) (result : Result RegisterAnswer IssueFault) (text : List ℕ) (out : Result (Unit {0}) E) (old new : List ℕ) → text ≡ day_text day → Told rows rows' (λ r r'. Serves r r' (record { reference = reference; bytes = bytes; day = text }) (before, now) (outcome_of result)) → HasCause before now result → IfOk result (RegisterCause reference bytes text) → OnOk out (new ≡ old ++ outcome_text reference (outcome_of result)) → OnOk out (IsEnded (told_as reference (outcome_of result))) → (answer : Answer) × Said out answer old new × Steps (Ask reference bytes) answer (on rows before) (on rows' now)
-  was_said rows rows' before now result text (Ok u) old new is served cause answered pushed ended = (
+  pub was_said : {E : Type 0} (rows rows' : Option (List Row)) (before now : ℕ) (result : Result RegisterAnswer IssueFault) (text : List ℕ) (out : Result (Unit {0}) E) (old new : List ℕ) → text ≡ day_text day → Told rows rows' (λ r r'. Serves r r' (record { reference = reference; bytes = bytes; day = text }) (before, now) (outcome_of result)) → HasCause before now result → IfOk result (RegisterCause reference bytes text) → OnOk out (new ≡ old ++ outcome_text reference (outcome_of result)) → OnOk out (IsEnded (told_as reference (outcome_of result))) → OnErr out (new ≡ old) → (answer : Answer) × Said out answer old new × Steps (Ask reference bytes) answer (on rows before) (on rows' now)
+  was_said rows rows' before now result text (Ok u) old new is served cause answered pushed ended kept = (
     told_as reference (outcome_of result),
     (ended, pushed ∙ ap (λ (l : List ℕ). old ++ l) (sym (ended_text reference (outcome_of result) ended))),
     ask_steps rows rows' before now (outcome_of result) (subst (λ (d : List ℕ). Told rows rows' (λ r r'. Serves r r' (record { reference = reference; bytes = bytes; day = d }) (before, now) (outcome_of result))) is served) cause.later
         (counts before now result cause)
         (may_come before now result (subst (λ (d : List ℕ). IfOk result (RegisterCause reference bytes d)) is answered)),
   )
-  was_said rows rows' before now result text (Err e) old new is served cause answered pushed ended = (
+  was_said rows rows' before now result text (Err e) old new is served cause answered pushed ended kept = (
     Memory,
-    refl,
+    (refl, kept),
     ask_steps rows rows' before now NoMemory (told_more _ _ rows rows' (subst (λ (d : List ℕ). Told rows rows' (λ r r'. Serves r r' (record { reference = reference; bytes = bytes; day = d }) (before, now) (outcome_of result))) is served) (λ r r' one. unheard r r' asked (before, now) (outcome_of result) one)) cause.later cause.later tt,
   )
 

@@ -54,7 +54,7 @@ pub record Steps (event : Event) (answer : Answer) (m m' : Moment) : Type 0 wher
 -- What a step appended to its line: the text of the answer, or a front of it where memory is wanting.
 abbrev pub Said : {E : Type 0} → Result (Unit {0}) E → Answer → List ℕ → List ℕ → Type 0
 Said (Ok u) answer old new = IsEnded answer × (new ≡ old ++ answer_text answer)
-Said (Err e) answer old new = answer ≡ Memory
+Said (Err e) answer old new = (answer ≡ Memory) × (new ≡ old)
 
 -- the journal line of an answer, or none where memory is wanting
 abbrev pub Lined : {E : Type 0} → ℕ → Result (List ℕ) E → Answer → Type 0

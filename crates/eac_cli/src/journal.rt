@@ -1,5 +1,6 @@
 // The texts of the journal, each appended to the line that it stands in.
-ghost use Rattle.std.specs.Prelude.{◌≡◌, ◌∷◌, ◌++◌, OnOk};
+ghost use Rattle.std.specs.Prelude.{◌≡◌, ◌∷◌, ◌++◌, codes, length, take, OnOk, OnErr};
+ghost use Rattle.std.specs.Fmt.{decimal};
 ghost use Rattle.issue_core.specs.Register.{outcome_of};
 ghost use Rattle.eac_cli.specs.Journal.{outcome_text, line_head};
 ghost use Rattle.eac_cli.specs.Turn.{told_as, IsEnded};
@@ -25,7 +26,8 @@ fn push_given(
     reference: &Reference,
     day: &[u8; 6],
 ) -> Result<(), NoMemory>
-    ensures { OnOk result (out.new ≡ out.old ++ (word.now ++ reference.now ++ 32 ∷ day.now)) }
+    ensures pushed { OnOk result (out.new ≡ out.old ++ (word.now ++ reference.now ++ 32 ∷ day.now)) }
+    ensures front { OnErr result (take (length out.old) out.new ≡ out.old) }
 {
     out.push_all(word)?;
     out.push_all(reference.as_slice())?;
@@ -33,8 +35,48 @@ fn push_given(
     out.push_all(day)
 }
 
-/// Appends the text of what the register answered for a reference. [`NoMemory`] where memory is wanting, for the answer
-/// or its text; a front of the text may be there then. Of the other faults none comes from the register.
+fn push_fault(out: &mut Octets) -> Result<(), NoMemory>
+    ensures pushed { OnOk result (out.new ≡ out.old ++ codes "fault keeper") }
+    ensures front { OnErr result (take (length out.old) out.new ≡ out.old) }
+{
+    out.push_all(b"fault keeper")
+}
+
+// That a rule is broken, by its number.
+fn push_refused(alloc: Global, out: &mut Octets, rule: u8) -> Result<(), NoMemory>
+    ensures pushed { OnOk result (out.new ≡ out.old ++ (codes "refused " ++ decimal rule)) }
+    ensures front { OnErr result (take (length out.old) out.new ≡ out.old) }
+{
+    let mut number = Octets::new(alloc);
+    push_number(alloc, &mut number, rule as u64)?;
+    out.push_all(b"refused ")?;
+    out.push_all(number.as_slice())
+}
+
+// The text of the answer, of which a front may be there where memory is wanting.
+fn push_answer(
+    alloc: Global,
+    out: &mut Octets,
+    reference: &Reference,
+    answer: &Result<RegisterAnswer, IssueFault>,
+) -> Result<(), NoMemory>
+    ensures text { OnOk result (out.new ≡ out.old ++ outcome_text reference.now (outcome_of answer.now)) }
+    ensures ended { OnOk result (IsEnded (told_as reference.now (outcome_of answer.now))) }
+    ensures front { OnErr result (take (length out.old) out.new ≡ out.old) }
+{
+    match answer {
+        Ok(RegisterAnswer::Issued(day)) => push_given(out, b"issued ", reference, day),
+        Ok(RegisterAnswer::Kept(day)) => push_given(out, b"kept ", reference, day),
+        Ok(RegisterAnswer::Refused(rule)) => push_refused(alloc, out, rule.number()),
+        Err(IssueFault::KeeperFault) => push_fault(out),
+        Err(IssueFault::ProviderFault) => Err(NoMemory),
+        Err(IssueFault::NoKey(_)) => Err(NoMemory),
+        Err(IssueFault::NoMemory) => Err(NoMemory),
+    }
+}
+
+/// Appends the text of what the register answered for a reference, or nothing where memory is wanting, for the answer
+/// or its text. Of the other faults none comes from the register.
 pub fn push_outcome(
     alloc: Global,
     out: &mut Octets,
@@ -43,17 +85,14 @@ pub fn push_outcome(
 ) -> Result<(), NoMemory>
     ensures text { OnOk result (out.new ≡ out.old ++ outcome_text reference.now (outcome_of answer.now)) }
     ensures ended { OnOk result (IsEnded (told_as reference.now (outcome_of answer.now))) }
+    ensures kept { OnErr result (out.new ≡ out.old) }
 {
-    match answer {
-        Ok(RegisterAnswer::Issued(day)) => push_given(out, b"issued ", reference, day),
-        Ok(RegisterAnswer::Kept(day)) => push_given(out, b"kept ", reference, day),
-        Ok(RegisterAnswer::Refused(rule)) => {
-            out.push_all(b"refused ")?;
-            push_number(alloc, out, rule.number() as u64)
+    let before = out.len();
+    match push_answer(alloc, out, reference, answer) {
+        Ok(()) => Ok(()),
+        Err(NoMemory) => {
+            out.truncate(before);
+            Err(NoMemory)
         }
-        Err(IssueFault::KeeperFault) => out.push_all(b"fault keeper"),
-        Err(IssueFault::ProviderFault) => Err(NoMemory),
-        Err(IssueFault::NoKey(_)) => Err(NoMemory),
-        Err(IssueFault::NoMemory) => Err(NoMemory),
     }
 }

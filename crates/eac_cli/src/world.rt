@@ -50,7 +50,7 @@ fn ask<B: Keeper>(
 ///
 /// # Errors
 ///
-/// [`NoMemory`]: the rows are as after a front of the event's writes, and a front of the text may be in the line.
+/// [`NoMemory`]: nothing was appended, and the rows are as after a front of the event's writes.
 pub fn step<B: Keeper>(
     alloc: Global,
     world: &mut World,
