@@ -1,0 +1,3 @@
+pub mod StoredRow
+pub mod ReadingOrder
+pub mod Views
