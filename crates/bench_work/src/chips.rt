@@ -1,34 +1,29 @@
-//! How fast chips are opened and given certificates: `bench/run` times it.
-//!
-//! Its words are `open` or `import` and a number up to 4,294,967,295. `open` opens one chip on a disk in memory so many
-//! times; `import` makes so many chips, each on a disk of its own, and gives each one a link, which is stored. It prints the
-//! sum of the generations, so that no work can be left out. Anything else ends it with status 1 and prints nothing.
-#![tactic(auto)]
+// Chips opened on a disk in memory, and given a link.
 
-mod certs;
-
-use self::certs::{LINK, ROOT};
+use crate::links::{LINK, ROOT};
 use chip_slots::{Chip, ChipDisk, MemoryDisk, make_chip, open_chip};
 use cv_dates::day_from_text;
 use cvc_grammar::view_cert;
 use eac_base::{FailPlan, Octets};
 use signature_provider::DigestProvider;
 use std::alloc::Global;
-use std::env;
-use std::process::ExitCode;
 
-/// What is done over and over.
+/// What is done with chips.
 #[derive(Clone, Copy, Debug, PartialEq, Eq)]
-enum Work {
+pub enum ChipWork {
+    /// One chip is opened.
     Open,
+    /// A chip is made on a disk of its own and given a link, which is stored.
     Import,
 }
 
-fn work_of(word: &str) -> Option<Work> {
-    match word {
-        "open" => Some(Work::Open),
-        "import" => Some(Work::Import),
-        _ => None,
+impl ChipWork {
+    pub fn named(word: &str) -> Option<ChipWork> {
+        match word {
+            "open" => Some(ChipWork::Open),
+            "import" => Some(ChipWork::Import),
+            _ => None,
+        }
     }
 }
 
@@ -78,15 +73,10 @@ fn linked(alloc: Global) -> Option<u64> {
     }
 }
 
-fn done(alloc: Global, work: Work, times: u32) -> Option<u64> {
-    let mut sum: u64 = 0;
-    if work == Work::Import {
-        for _ in 0..times {
-            sum = sum.wrapping_add(linked(alloc)?);
-        }
-        return Some(sum);
-    }
+// The sum of the generations of a chip that is opened so many times, each with one more.
+fn opened_often(alloc: Global, times: u32) -> Option<u64> {
     let mut disk = made(alloc)?;
+    let mut sum: u64 = 0;
     for _ in 0..times {
         let chip = opened(&mut disk)?;
         sum = sum.wrapping_add(chip.generation()).wrapping_add(1);
@@ -94,23 +84,17 @@ fn done(alloc: Global, work: Work, times: u32) -> Option<u64> {
     Some(sum)
 }
 
-fn asked<R: std::rt::Env + AllocGlobal>(rt: &R) -> Option<(Work, u32)> {
-    let mut args = env::args(rt).ok()?.skip(1);
-    let work = work_of(&args.next()?)?;
-    let times = args.next()?.parse::<u32>().ok()?;
-    Some((work, times))
+fn linked_often(alloc: Global, times: u32) -> Option<u64> {
+    let mut sum: u64 = 0;
+    for _ in 0..times {
+        sum = sum.wrapping_add(linked(alloc)?);
+    }
+    Some(sum)
 }
 
-fn main(rt: HostRuntime) -> ExitCode {
-    let alloc = rt.alloc();
-    let Some((work, times)) = asked(&rt) else {
-        return ExitCode::from(1);
-    };
-    let Some(sum) = done(alloc, work, times) else {
-        return ExitCode::from(1);
-    };
-    match println!(rt; "{sum}") {
-        Ok(()) => ExitCode::from(0),
-        Err(_) => ExitCode::from(1),
+pub fn work_on(alloc: Global, work: ChipWork, times: u32) -> Option<u64> {
+    match work {
+        ChipWork::Open => opened_often(alloc, times),
+        ChipWork::Import => linked_often(alloc, times),
     }
 }
