@@ -24,7 +24,8 @@ fn lists_grow_where_memory_is_there(rt: HostRuntime) -> Result<(), Fail> {
         calls: 7,
     };
     acks.push(ack)?;
-    let mut octets = Octets::from_slice(alloc, b"ab")?;
+    let mut octets = Octets::with_room(alloc, 4)?;
+    octets.push_all(b"ab")?;
     octets.push_all(b"cd")?;
     octets.truncate(3);
     assert_eq!(rt; lists.get(0), Some(b"run".as_slice()));
