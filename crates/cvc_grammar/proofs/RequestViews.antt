@@ -7,7 +7,7 @@ use Rattle.eac_base.specs.Answers.{Answers}
 use Rattle.signature_provider.specs.Key.{is_key, key_fits}
 use Rattle.cvc_grammar.specs.declared.refusal.CvcRefusal.{CvcRefusal}
 use Rattle.cvc_grammar.specs.declared.refusal.ReadCvc.{ReadCvc}
-use Rattle.cvc_grammar.specs.declared.key_view.KeyParts.{KeyParts}
+use Rattle.cvc_grammar.specs.declared.key.KeyParts.{KeyParts}
 use Rattle.cvc_grammar.specs.declared.parts.Part as code
 use Rattle.cvc_grammar.specs.declared.request.Request.{Request}
 use Rattle.cvc_grammar.specs.ReadingOrder.{Part, key_in}

@@ -1,7 +1,7 @@
 -- Requests that lie in an input, as the definitions speak of them.
 use Rattle.std.specs.Prelude.{◌≡◌, List, ℕ, ◌++◌, Option, Some, None, option_map, IfSome}
 use Rattle.tlv_core.specs.Object.{object}
-use Rattle.cvc_grammar.specs.declared.request_view.RequestBodyView.{RequestBodyView}
+use Rattle.cvc_grammar.specs.declared.request.view.RequestBodyView.{RequestBodyView}
 use Rattle.cvc_grammar.specs.declared.request.OuterView.{OuterView}
 use Rattle.cvc_grammar.specs.declared.request.RequestView.{RequestView}
 use Rattle.cvc_grammar.specs.declared.request.RequestBody.{RequestBody}

@@ -4,8 +4,8 @@ use Rattle.std.specs.Prelude.{◌≡◌, ℕ, ◌+◌, List, length, Option, Som
 use Rattle.eac_base.specs.Answers.{Answers}
 use Rattle.signature_provider.specs.declared.key.Key.{Key}
 use Rattle.cvc_grammar.specs.declared.parts.Part as code
-use Rattle.cvc_grammar.specs.declared.key_view.KeyParts.{KeyParts}
-use Rattle.cvc_grammar.specs.declared.cert_view.BodyView.{BodyView}
+use Rattle.cvc_grammar.specs.declared.key.KeyParts.{KeyParts}
+use Rattle.cvc_grammar.specs.declared.certificate.view.BodyView.{BodyView}
 use Rattle.cvc_grammar.specs.declared.certificate.CertBody.{CertBody}
 use Rattle.cvc_grammar.specs.declared.certificate.Cert.{Cert}
 use Rattle.cvc_grammar.specs.declared.certificate.CertView.{CertView}

@@ -1,11 +1,12 @@
 // The objects of a body, each with what it holds.
-ghost use Rattle.std.specs.Prelude.{◌<◌, ◌≤◌, ◌^◌, IfOk, option_map};
+ghost use Rattle.std.specs.Prelude.{◌<◌, ◌≤◌, ◌^◌, IfOk};
 ghost use Rattle.cvc_grammar.specs.ReadingOrder as order;
 ghost use Rattle.cvc_grammar.specs.Views.{part_of, end_of, seen_key, Reads};
 
 use crate::CvcRefusal;
-use crate::key_view::{KeyParts, view_key};
-use crate::parts::{Part, expected, nothing_in};
+use crate::key::KeyParts;
+use crate::key::view::view_key;
+use crate::parts::{Part, expected};
 use chat_rights::{Template, read_template};
 use cv_dates::{Day, read_date};
 use holder_reference::{Reference, read_reference};
@@ -29,10 +30,7 @@ pub fn reference_in<'a>(tag: Tag, part: Part<'a>) -> Result<(Reference, Part<'a>
     ensures rest { IfOk result (λ o. end_of o.1 ≤ end_of part.entry) }
 {
     let (content, rest) = expected(tag, part)?;
-    match read_reference(content.bytes) {
-        Ok(reference) => Ok((reference, rest)),
-        Err(e) => Err(CvcRefusal::Reference(e)),
-    }
+    Ok((read_reference(content.bytes)?, rest))
 }
 
 pub fn key_in<'a>(part: Part<'a>) -> Result<(KeyParts<'a>, Part<'a>), CvcRefusal>
@@ -41,16 +39,13 @@ pub fn key_in<'a>(part: Part<'a>) -> Result<(KeyParts<'a>, Part<'a>), CvcRefusal
     ensures rest { IfOk result (λ o. end_of o.1 ≤ end_of part.entry) }
 {
     let (content, rest) = expected(0x7f49, part)?;
-    match view_key(content.bytes) {
-        None => Err(CvcRefusal::Key),
-        Some(key) => {
-            if part.place + 1024 < rest.place {
-                Err(CvcRefusal::Key)
-            } else {
-                Ok((key, rest))
-            }
-        }
+    let Some(key) = view_key(content.bytes) else {
+        return Err(CvcRefusal::Key);
+    };
+    if part.place + 1024 < rest.place {
+        return Err(CvcRefusal::Key);
     }
+    Ok((key, rest))
 }
 
 pub fn template_in<'a>(part: Part<'a>) -> Result<(Template, Part<'a>), CvcRefusal>
@@ -59,10 +54,7 @@ pub fn template_in<'a>(part: Part<'a>) -> Result<(Template, Part<'a>), CvcRefusa
     ensures rest { IfOk result (λ o. end_of o.1 ≤ end_of part.entry) }
 {
     let (content, rest) = expected(0x7f4c, part)?;
-    match read_template(content.bytes) {
-        Ok(template) => Ok((template, rest)),
-        Err(e) => Err(CvcRefusal::Template(e)),
-    }
+    Ok((read_template(content.bytes)?, rest))
 }
 
 pub fn date_in<'a>(tag: Tag, part: Part<'a>) -> Result<(Day, Part<'a>), CvcRefusal>
@@ -71,20 +63,5 @@ pub fn date_in<'a>(tag: Tag, part: Part<'a>) -> Result<(Day, Part<'a>), CvcRefus
     ensures rest { IfOk result (λ o. end_of o.1 ≤ end_of part.entry) }
 {
     let (content, rest) = expected(tag, part)?;
-    match read_date(content.bytes) {
-        Ok(day) => Ok((day, rest)),
-        Err(e) => Err(CvcRefusal::Date(e)),
-    }
-}
-
-pub fn extensions_in<'a>(part: Part<'a>) -> Result<Option<&'a [u8]>, CvcRefusal>
-    requires { end_of part < 2 ^ 32 }
-    ensures { Reads (λ o. option_map (λ e. e.now) o) result (order.extensions_in (part_of part.entry)) }
-{
-    if part.bytes.is_empty() {
-        return Ok(None);
-    }
-    let (content, rest) = expected(0x65, part)?;
-    nothing_in(rest)?;
-    Ok(Some(content.bytes))
+    Ok((read_date(content.bytes)?, rest))
 }

@@ -1,4 +1,8 @@
 // Certificates as values of their own, and as they lie in an input.
+pub mod copy;
+pub mod view;
+pub mod writing;
+
 use chat_rights::Template;
 use cv_dates::Day;
 use eac_base::Octets;

@@ -3,9 +3,9 @@
 //!
 //! A certificate is a row of data objects that ends with a signature. `view_cert` reads one where it lies and takes no
 //! memory, `read_cert` copies what it read. Both read the whole input in one order, and answer the first step that
-//! fails. `write_body` writes what a signature is over, `write_cert` the whole. `view_request` and `read_request` do so
-//! for requests, whose view also shows what each of their signatures is over; they are written by three calls, one for
-//! each thing that is signed or sent.
+//! fails. `write_body` writes what a signature is over, `finish_cert` makes the whole of those bytes and the signature, and
+//! `write_cert` does both. `view_request` and `read_request` do so for requests, whose view also shows what each of their
+//! signatures is over; they are written by three calls, one for each thing that is signed or sent.
 //!
 //! A certificate and a request have one text, and a text is of one of them; what was written is read, and what was read
 //! is written: the functions of `laws` say so.
@@ -14,30 +14,24 @@
 #![tactic(auto)]
 
 mod body_fields;
-mod cert_copy;
-mod cert_view;
-mod cert_writing;
 mod certificate;
-mod key_parts;
-mod key_view;
+mod extensions;
+mod key;
 pub mod laws;
 mod object_writing;
 mod parts;
 mod refusal;
 mod request;
-mod request_copy;
-mod request_view;
-mod request_writing;
 mod signed;
 #[cfg(test)]
 mod tests;
 
-pub use cert_copy::read_cert;
-pub use cert_view::view_cert;
-pub use cert_writing::{write_body, write_cert};
+pub use certificate::copy::read_cert;
+pub use certificate::view::view_cert;
+pub use certificate::writing::{finish_cert, write_body, write_cert};
 pub use certificate::{Cert, CertBody, CertView};
 pub use refusal::{CvcRefusal, ObjectFault, ReadCvc};
+pub use request::copy::read_request;
+pub use request::view::view_request;
+pub use request::writing::{write_request, write_request_body, write_signed_part};
 pub use request::{Outer, OuterView, Request, RequestBody, RequestView};
-pub use request_copy::read_request;
-pub use request_view::view_request;
-pub use request_writing::{write_request, write_request_body, write_signed_part};

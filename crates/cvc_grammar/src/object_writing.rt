@@ -1,74 +1,47 @@
-// The objects that bodies are made of, behind the bytes that are there.
-ghost use Rattle.std.specs.Prelude.{◌≡◌, ◌++◌, ◌<◌, length, IsTrue, IfOk, OnOk};
-ghost use Rattle.tlv_core.specs.Object.{object, is_tag};
-ghost use Rattle.signature_provider.specs.Key as keys;
-ghost use Rattle.cvc_grammar.specs.Certificate.{extensions_text};
+// Objects behind the bytes that are there.
+ghost use Rattle.std.specs.Prelude.{◌≡◌, ◌++◌, ◌<◌, ◌≤◌, ◌+◌, ℕ, List, length, IsTrue, IfOk, OnOk};
+ghost use Rattle.tlv_core.specs.Object.{object, is_tag, tag_bytes, length_bytes};
 
 use eac_base::{NoMemory, Octets};
-use signature_provider::Key;
 use std::alloc::Global;
 use tlv_core::{Tag, object_head};
 
-/// An object behind the bytes that are there.
+/// The bytes of an object whose content has so many.
+pub fn object_size(tag: Tag, size: usize) -> usize
+    requires tag { IsTrue (is_tag tag) }
+    requires size { size < 65536 }
+    ensures exact { (content : List ℕ) → length content ≡ size → result ≡ length (object tag content) }
+    ensures most { result ≤ size + 5 }
+{
+    object_head(tag, size as u64).as_slice().len() + size
+}
+
+/// The head of an object whose content has so many bytes. The caller appends the content.
+pub fn push_head(out: &mut Octets, tag: Tag, size: usize) -> Result<(), NoMemory>
+    requires tag { IsTrue (is_tag tag) }
+    requires size { size < 65536 }
+    ensures { OnOk result (out.new ≡ out.old ++ (tag_bytes tag ++ length_bytes size)) }
+{
+    out.push_all(object_head(tag, size as u64).as_slice())
+}
+
+/// An object.
 pub fn push_object(out: &mut Octets, tag: Tag, content: &[u8]) -> Result<(), NoMemory>
     requires tag { IsTrue (is_tag tag) }
     requires size { length content.now < 65536 }
     ensures { OnOk result (out.new ≡ out.old ++ object tag content.now) }
 {
-    out.push_all(object_head(tag, content.len() as u64).as_slice())?;
+    push_head(out, tag, content.len())?;
     out.push_all(content)
 }
 
-fn push_key_values(out: &mut Octets, key: &Key) -> Result<(), NoMemory>
-    requires { length key.now.point < 65536 }
-    ensures { OnOk result (out.new ≡ out.old ++ keys.key_values key.now) }
+/// An object of its own.
+pub fn write_object(alloc: Global, tag: Tag, content: &[u8]) -> Result<Octets, NoMemory>
+    requires tag { IsTrue (is_tag tag) }
+    requires size { length content.now < 65536 }
+    ensures { IfOk result (λ o. o ≡ object tag content.now) }
 {
-    if key.algorithm.is_elliptic() {
-        out.push_all(key.domain.as_slice())?;
-        push_object(out, 0x86, key.point.as_slice())?;
-        out.push_all(key.cofactor.as_slice())
-    } else {
-        out.push_all(key.point.as_slice())
-    }
-}
-
-fn key_content(alloc: Global, key: &Key) -> Result<Octets, NoMemory>
-    requires { length key.now.point < 65536 }
-    ensures { IfOk result (λ o. o ≡ keys.key_content key.now) }
-{
-    let mut out = Octets::new(alloc);
-    let identifier = [
-        0x04,
-        0x00,
-        0x7f,
-        0x00,
-        0x07,
-        0x02,
-        0x02,
-        0x02,
-        key.algorithm.arc,
-        key.algorithm.last,
-    ];
-    push_object(&mut out, 0x06, &identifier)?;
-    push_key_values(&mut out, key)?;
+    let mut out = Octets::with_room(alloc, object_size(tag, content.len()))?;
+    push_object(&mut out, tag, content)?;
     Ok(out)
-}
-
-/// A key's object behind the bytes that are there.
-pub fn push_key(alloc: Global, out: &mut Octets, key: &Key) -> Result<(), NoMemory>
-    requires { IsTrue (keys.key_fits key.now) }
-    ensures { OnOk result (out.new ≡ out.old ++ keys.key_object key.now) }
-{
-    let content = key_content(alloc, key)?;
-    push_object(out, 0x7f49, content.as_slice())
-}
-
-pub fn push_extensions(out: &mut Octets, extensions: &Option<Octets>) -> Result<(), NoMemory>
-    requires { length (extensions_text extensions.now) < 65536 }
-    ensures { OnOk result (out.new ≡ out.old ++ extensions_text extensions.now) }
-{
-    match extensions {
-        None => Ok(()),
-        Some(content) => push_object(out, 0x65, content.as_slice()),
-    }
 }

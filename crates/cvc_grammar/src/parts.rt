@@ -84,8 +84,9 @@ pub fn whole_object<'a>(
 pub fn nothing_in(part: Part) -> Result<(), CvcRefusal>
     ensures { Reads (λ _. tt) result (order.nothing_in (part_of part.entry)) }
 {
-    match part.bytes {
-        [] => Ok(()),
-        [_, ..] => Err(CvcRefusal::Trailing),
+    if part.bytes.is_empty() {
+        Ok(())
+    } else {
+        Err(CvcRefusal::Trailing)
     }
 }

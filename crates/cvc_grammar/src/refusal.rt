@@ -60,6 +60,36 @@ impl CvcRefusal {
     }
 }
 
+impl From<RefRefusal> for CvcRefusal {
+    ghost use Rattle.cvc_grammar.specs.declared.refusal.CvcRefusal.{CvcRefusal};
+
+    ghost from_gives = { λ e refusal. refusal ≡ CvcRefusal.Reference e };
+
+    fn from(e: RefRefusal) -> Self {
+        CvcRefusal::Reference(e)
+    }
+}
+
+impl From<TemplateRefusal> for CvcRefusal {
+    ghost use Rattle.cvc_grammar.specs.declared.refusal.CvcRefusal.{CvcRefusal};
+
+    ghost from_gives = { λ e refusal. refusal ≡ CvcRefusal.Template e };
+
+    fn from(e: TemplateRefusal) -> Self {
+        CvcRefusal::Template(e)
+    }
+}
+
+impl From<DateRefusal> for CvcRefusal {
+    ghost use Rattle.cvc_grammar.specs.declared.refusal.CvcRefusal.{CvcRefusal};
+
+    ghost from_gives = { λ e refusal. refusal ≡ CvcRefusal.Date e };
+
+    fn from(e: DateRefusal) -> Self {
+        CvcRefusal::Date(e)
+    }
+}
+
 /// Why no owned copy was read.
 #[derive(Clone, Copy, Debug, PartialEq, Eq)]
 pub enum ReadCvc {

@@ -1,4 +1,8 @@
 // Certificate requests as values of their own, and as they lie in an input.
+pub mod copy;
+pub mod view;
+pub mod writing;
+
 use eac_base::Octets;
 use holder_reference::Reference;
 use signature_provider::{Key, KeyView};

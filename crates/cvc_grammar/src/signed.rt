@@ -1,11 +1,16 @@
-// A body object and the signature behind it.
-ghost use Rattle.std.specs.Prelude.{◌≡◌, ◌<◌, ◌≤◌, ◌^◌, IfOk};
-ghost use Rattle.tlv_core.specs.Object.{object};
+// What is signed, and the signature behind it.
+ghost use Rattle.std.specs.Prelude.{◌≡◌, ◌++◌, ◌<◌, ◌≤◌, ◌^◌, length, IsTrue, IfOk};
+ghost use Rattle.tlv_core.specs.Object.{object, is_tag};
+ghost use Rattle.cvc_grammar.specs.Certificate.{signature_object};
 ghost use Rattle.cvc_grammar.specs.ReadingOrder as order;
 ghost use Rattle.cvc_grammar.specs.Views.{part_of, end_of, Reads};
 
+use crate::object_writing::{object_size, push_head, push_object};
 use crate::parts::{Part, expected, nothing_in, whole_object};
 use crate::{CvcRefusal, ObjectFault};
+use eac_base::{NoMemory, Octets};
+use std::alloc::Global;
+use tlv_core::Tag;
 
 /// The signature and the rest.
 pub fn signature_in<'a>(part: Part<'a>) -> Result<(&'a [u8], Part<'a>), CvcRefusal>
@@ -35,4 +40,23 @@ pub fn signed_in<'a>(part: Part<'a>) -> Result<(Part<'a>, &'a [u8], &'a [u8]), C
     let (signature, rest) = signature_in(rest)?;
     nothing_in(rest)?;
     Ok((body, whole, signature))
+}
+
+/// The object whose content is what was signed, as it stands there, and the signature behind it.
+pub fn write_signed(
+    alloc: Global,
+    tag: Tag,
+    signed: &[u8],
+    signature: &[u8],
+) -> Result<Octets, NoMemory>
+    requires tag { IsTrue (is_tag tag) }
+    requires size { length (signed.now ++ signature_object signature.now) < 65536 }
+    ensures { IfOk result (λ o. o ≡ object tag (signed.now ++ signature_object signature.now)) }
+{
+    let size = signed.len() + object_size(0x5f37, signature.len());
+    let mut out = Octets::with_room(alloc, object_size(tag, size))?;
+    push_head(&mut out, tag, size)?;
+    out.push_all(signed)?;
+    push_object(&mut out, 0x5f37, signature)?;
+    Ok(out)
 }

@@ -1,9 +1,0 @@
-use Rattle.cvc_grammar.specs.Views.{seen_key}
-use Rattle.std.specs.Prelude.{option_map}
-use Rattle.cvc_grammar.proofs.KeyViews.{key_steps}
-use Rattle.cvc_grammar.proofs.key_view.view_key.Goals as goal
-
-pub returns-in-Some : goal.returns-in-Some
-returns-in-Some c =
-    key_steps c.args.content.now c.in-Ok.identifier.now c.in-Ok.values.now c.in-Ok.tag c.in-Some.algorithm (option_map seen_key c.legal_key.result)
-    c.in-Ok.ensures.exact c.if-tag-ne6.false c.in-Some.ensures c.legal_key.ensures
