@@ -7,7 +7,8 @@ ghost use Rattle.std.specs.Prelude.{◌<◌};
 
 use self::texts::{FOUNDING, ON_256_BITS, ON_521_BITS, VERIFIER, WITH_RSA};
 use crate::{
-    Cert, CertView, CvcRefusal, ObjectFault, ReadCvc, read_cert, view_cert, write_body, write_cert,
+    Cert, CertView, CvcRefusal, ObjectFault, ReadCvc, finish_cert, read_cert, view_cert,
+    write_body, write_cert,
 };
 use chat_rights::{Role, TemplateRefusal};
 use cv_dates::DateRefusal;
@@ -136,6 +137,10 @@ fn what_is_read_is_written_as_it_was(rt: HostRuntime) -> Result<(), Fail> {
         is_copy(&rt, &cert, &view);
         assert_eq!(rt; write_body(alloc, &cert.body)?.as_slice(), view.body);
         assert_eq!(rt; write_cert(alloc, &cert)?.as_slice(), bytes);
+        assert_eq!(rt;
+            finish_cert(alloc, view.body, view.signature)?.as_slice(),
+            bytes
+        );
     }
     Ok(())
 }
