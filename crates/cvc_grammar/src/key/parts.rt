@@ -42,10 +42,7 @@ pub fn after_domain(bytes: &[u8]) -> Option<&[u8]>
 fn is_domain(bytes: &[u8]) -> bool
     ensures { result ≡ legal.is_domain bytes.now }
 {
-    match after_domain(bytes) {
-        Some(rest) => rest.is_empty(),
-        None => false,
-    }
+    matches!(after_domain(bytes), Some(rest) if rest.is_empty())
 }
 
 /// What follows the modulus and the exponent.
@@ -59,19 +56,13 @@ fn after_rsa(bytes: &[u8]) -> Option<&[u8]>
 fn is_rsa_point(bytes: &[u8]) -> bool
     ensures { result ≡ legal.is_rsa_point bytes.now }
 {
-    match after_rsa(bytes) {
-        Some(rest) => rest.is_empty(),
-        None => false,
-    }
+    matches!(after_rsa(bytes), Some(rest) if rest.is_empty())
 }
 
 fn is_cofactor_object(bytes: &[u8]) -> bool
     ensures { result ≡ are_objects (0x87 ∷ []) bytes.now }
 {
-    match after_object(0x87, bytes) {
-        Some(rest) => rest.is_empty(),
-        None => false,
-    }
+    matches!(after_object(0x87, bytes), Some(rest) if rest.is_empty())
 }
 
 fn is_cofactor(bytes: &[u8]) -> bool

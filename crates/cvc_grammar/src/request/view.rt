@@ -168,10 +168,8 @@ fn named_in<'a>(part: Part<'a>) -> Result<(Reference, &'a [u8], Part<'a>), CvcRe
     ensures rest { IfOk result (λ o. end_of o.2 ≤ end_of part.entry) }
 {
     let (content, whole, rest) = whole_object(0x42, part)?;
-    match read_reference(content.bytes) {
-        Ok(reference) => Ok((reference, whole, rest)),
-        Err(e) => Err(CvcRefusal::Reference(e)),
-    }
+    let reference = read_reference(content.bytes)?;
+    Ok((reference, whole, rest))
 }
 
 /// The bare request and what stands around it, in the content of an object 67.
