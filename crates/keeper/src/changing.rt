@@ -32,7 +32,10 @@ fn fail_after(done: Result<(), KeepRefusal>) -> Result<(), KeepRefusal>
 {
     match done {
         Err(KeepRefusal::NoMemory) => Err(KeepRefusal::NoMemory),
-        _ => Err(KeepRefusal::Failed),
+        other => {
+            drop(other);
+            Err(KeepRefusal::Failed)
+        }
     }
 }
 
@@ -85,10 +88,8 @@ fn try_append(
     ensures index { IsIndex index.new rows.new.items }
 {
     addable(alloc, rows, index, row)?;
-    match push(alloc, rows, index, row) {
-        Ok(()) => Ok(()),
-        Err(_) => Err(KeepRefusal::NoMemory),
-    }
+    push(alloc, rows, index, row)?;
+    Ok(())
 }
 
 // The same, and what it keeps of the rows.
@@ -184,9 +185,7 @@ fn try_settle(
     ensures own { result ≢ Err Failed }
 {
     waits(alloc, rows, index, desk, reference)?;
-    let Ok(settled) = settled.copy(alloc) else {
-        return Err(KeepRefusal::NoMemory);
-    };
+    let settled = settled.copy(alloc)?;
     settle_own(rows, index, desk, reference, settled);
     Ok(())
 }

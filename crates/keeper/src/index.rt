@@ -3,7 +3,7 @@ ghost use Rattle.std.specs.Prelude.{◌≡◌, ◌∷◌, ◌++◌, [], None, Li
 ghost use Rattle.std.specs.BTreeMap.{get};
 ghost use Rattle.std.specs.List.{position};
 ghost use Rattle.keeper.specs.declared.rows.Row as said;
-ghost use Rattle.keeper.specs.Rows.{has_key, is_of, is_of_holder, kept_row};
+ghost use Rattle.keeper.specs.Rows.{has_key, is_of, kept_row};
 ghost use Rattle.keeper.specs.Steps.{is_held};
 ghost use Rattle.keeper.specs.Headings.{heading_cmp, Enters, StayPlaces, list_at, Becomes, with_place, without_last, StayLists, places_of, desk_of, holder_of};
 ghost use Rattle.keeper.specs.Index.{AreKeyed, AreFiled, IsIndex};
@@ -172,7 +172,8 @@ impl Index {
 
     /// The place of the row of a key.
     pub(crate) fn place(&self, table: Table, desk: u32, reference: &Reference) -> Option<usize>
-        ensures { (rows : List said.Row) → IsIndex self.now rows → result ≡ position (has_key table desk reference.now) rows }
+        ensures { (rows : List said.Row) → IsIndex self.now rows →
+            result ≡ position (has_key table desk reference.now) rows }
     {
         self.keys.at(&Heading::at_row(table, desk, reference))
     }
@@ -186,15 +187,18 @@ impl Index {
 
     /// The places of those of a holder.
     pub(crate) fn of_holder(&self, table: Table, desk: u32, holder: &Holder) -> &[usize]
-        ensures { (rows : List said.Row) → IsIndex self.now rows → result.now ≡ places_of (is_held table desk holder.now) rows }
+        ensures { (rows : List said.Row) → IsIndex self.now rows →
+            result.now ≡ places_of (is_held table desk holder.now) rows }
     {
         self.holders.at(&Heading::at_holder(table, desk, holder))
     }
 
     /// Files a row that is new at a place, under its desk and its holder.
     fn file_lists(&mut self, row: &Row, place: usize) -> Result<(), NoMemory>
-        ensures desks { OnOk result (Becomes (with_place place) (desk_of row.now) self.old.desks.lists self.new.desks.lists) }
-        ensures holders { OnOk result (Becomes (with_place place) (holder_of row.now) self.old.holders.lists self.new.holders.lists) }
+        ensures desks { OnOk result (Becomes (with_place place) (desk_of row.now)
+            self.old.desks.lists self.new.desks.lists) }
+        ensures holders { OnOk result (Becomes (with_place place) (holder_of row.now)
+            self.old.holders.lists self.new.holders.lists) }
         ensures no_desks { OnErr result (StayLists self.old.desks.lists self.new.desks.lists) }
         ensures no_holders { OnErr result (StayLists self.old.holders.lists self.new.holders.lists) }
         ensures keys { self.new.keys ≡ self.old.keys }
@@ -221,7 +225,8 @@ impl Index {
 
     /// Files a row with a new key, which gets this place. Nothing is filed where memory is wanting.
     pub(crate) fn file(&mut self, row: &Row, place: usize) -> Result<(), NoMemory>
-        ensures filed { OnOk result ((rows : List said.Row) → place ≡ length rows → kept_row row.now rows ≡ None → IsIndex self.old rows → IsIndex self.new (rows ++ row.now ∷ [])) }
+        ensures filed { OnOk result ((rows : List said.Row) → place ≡ length rows → kept_row row.now rows ≡ None →
+            IsIndex self.old rows → IsIndex self.new (rows ++ row.now ∷ [])) }
         ensures kept { OnErr result ((rows : List said.Row) → IsIndex self.old rows → IsIndex self.new rows) }
     {
         self.file_lists(row, place)?;

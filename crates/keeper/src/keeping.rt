@@ -7,8 +7,9 @@ ghost use Rattle.keeper.specs.Rows.{UniqueKeys, IsStorable, IsStorableSettled};
 ghost use Rattle.keeper.specs.Keeping.{Adds, AddAsked, Settles, SettleAsked, Finds, FindAsked, ListsDesk, DeskAsked, ListsHolder, HolderAsked, Counts, CountAsked, FaultRose};
 
 use crate::{Row, Rows, Settled, Table};
+use eac_base::NoMemory;
 use holder_reference::{Holder, Reference};
-use std::alloc::Global;
+use std::alloc::{AllocFailed, Global};
 use std::error::Error;
 use std::fmt;
 
@@ -44,12 +45,33 @@ impl fmt::Display for KeepRefusal {
 
 impl Error for KeepRefusal {}
 
+impl From<NoMemory> for KeepRefusal {
+    ghost use Rattle.keeper.specs.declared.keeping.KeepRefusal.{KeepRefusal};
+
+    ghost from_gives = { λ _ refusal. refusal ≡ KeepRefusal.NoMemory };
+
+    fn from(_: NoMemory) -> Self {
+        KeepRefusal::NoMemory
+    }
+}
+
+impl<T: Drop> From<AllocFailed<T>> for KeepRefusal {
+    ghost use Rattle.keeper.specs.declared.keeping.KeepRefusal.{KeepRefusal};
+
+    ghost from_gives = { λ _ refusal. refusal ≡ KeepRefusal.NoMemory };
+
+    fn from(_: AllocFailed<T>) -> Self {
+        KeepRefusal::NoMemory
+    }
+}
+
 /// Whatever keeps rows. What is said of rows is said where they are told after the call: then they were told before it
 /// too. So a keeper may stop telling at any call, and none begins to tell again.
 ///
 /// A keeper that doesn't tell its rows still owes what `asked` and `cause` say: each row that it gives has the table,
 /// desk, reference or holder that was asked for and could be added, `Full`, `Twice` and `Absent` come only from the
-/// calls that name them here, `Failed` comes only where the count of faults rose, and any other answer leaves the count.
+/// calls that name them here, `Failed` comes only where the count of faults rose, and any other answer leaves the
+/// count.
 pub trait Keeper {
     /// The rows in the order of adding, where the keeper tells them.
     ghost rows: { Self → Option (List Row) };
@@ -78,7 +100,8 @@ pub trait Keeper {
         settled: &Settled,
     ) -> Result<(), KeepRefusal>
         requires { IsStorableSettled settled.now }
-        ensures told { Told (rows self.old) (rows self.new) (λ before after. Settles before after desk reference.now settled.now result) }
+        ensures told { Told (rows self.old) (rows self.new)
+            (λ before after. Settles before after desk reference.now settled.now result) }
         ensures asked { SettleAsked desk reference.now result }
         ensures cause { FaultRose (faults self.old) (faults self.new) result };
 
@@ -90,13 +113,15 @@ pub trait Keeper {
         desk: u32,
         reference: &Reference,
     ) -> Result<Option<Row>, KeepRefusal>
-        ensures told { Told (rows self.old) (rows self.new) (λ before after. (after ≡ before) × Finds before table desk reference.now result) }
+        ensures told { Told (rows self.old) (rows self.new)
+            (λ before after. (after ≡ before) × Finds before table desk reference.now result) }
         ensures asked { FindAsked table desk reference.now result }
         ensures cause { FaultRose (faults self.old) (faults self.new) result };
 
     /// The rows of a desk in a table, in the order of adding. It changes no row.
     fn of_desk(&mut self, alloc: Global, table: Table, desk: u32) -> Result<Rows, KeepRefusal>
-        ensures told { Told (rows self.old) (rows self.new) (λ before after. (after ≡ before) × ListsDesk before table desk result) }
+        ensures told { Told (rows self.old) (rows self.new)
+            (λ before after. (after ≡ before) × ListsDesk before table desk result) }
         ensures asked { DeskAsked table desk result }
         ensures cause { FaultRose (faults self.old) (faults self.new) result };
 
@@ -108,13 +133,15 @@ pub trait Keeper {
         desk: u32,
         holder: &Holder,
     ) -> Result<Rows, KeepRefusal>
-        ensures told { Told (rows self.old) (rows self.new) (λ before after. (after ≡ before) × ListsHolder before table desk holder.now result) }
+        ensures told { Told (rows self.old) (rows self.new)
+            (λ before after. (after ≡ before) × ListsHolder before table desk holder.now result) }
         ensures asked { HolderAsked table desk holder.now result }
         ensures cause { FaultRose (faults self.old) (faults self.new) result };
 
     /// How many rows a desk has in a table. It changes no row.
     fn count(&mut self, alloc: Global, table: Table, desk: u32) -> Result<u64, KeepRefusal>
-        ensures told { Told (rows self.old) (rows self.new) (λ before after. (after ≡ before) × Counts before table desk result) }
+        ensures told { Told (rows self.old) (rows self.new)
+            (λ before after. (after ≡ before) × Counts before table desk result) }
         ensures asked { CountAsked result }
         ensures cause { FaultRose (faults self.old) (faults self.new) result };
 

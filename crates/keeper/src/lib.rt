@@ -4,10 +4,10 @@
 //! and the certificates of authorities. A keeper's rows are one list in the order of adding. Table, desk and reference
 //! are together a row's key, and no two rows have one key.
 //!
-//! [`Keeper`] is the trait of whatever stands behind: a call appends a row, gives an own row its certificate, or reads by
-//! key, by desk or by holder. What it says of rows it says where the keeper tells them after the call, so that a store may
-//! stop telling at any call. A call answers `Failed` only where the keeper's count of faults rose in it or stands at its
-//! last value, any other answer leaves the count, and every row that is given is one that was asked for.
+//! [`Keeper`] is the trait of whatever stands behind: a call appends a row, gives an own row its certificate, or reads
+//! by key, by desk or by holder. What it says of rows it says where the keeper tells them after the call, so that a
+//! store may stop telling at any call. A call answers `Failed` only where the keeper's count of faults rose in it or
+//! stands at its last value, any other answer leaves the count, and every row that is given is one that was asked for.
 //!
 //! [`MemoryKeeper`] keeps a plain list, always tells it, and fails exactly by its plan. In [`doubles`] are keepers for
 //! the tests of callers.

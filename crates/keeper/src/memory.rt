@@ -34,7 +34,13 @@ impl Model for MemoryKeeper {
 
     ghost Value = { KeeperValue };
 
-    ghost view = { λ k. record { rows = k.rows.items; plan = k.plan; calls = k.calls; faults = k.faults; unique = k.unique } };
+    ghost view = { λ k. record {
+      rows = k.rows.items;
+      plan = k.plan;
+      calls = k.calls;
+      faults = k.faults;
+      unique = k.unique;
+    } };
 
     ghost invariant = { λ k. All IsStorable k.rows.items × IsIndex k.index k.rows.items };
 }
@@ -66,7 +72,8 @@ impl Keeper for MemoryKeeper {
 
     fn add(&mut self, alloc: Global, row: &Row) -> Result<(), KeepRefusal>
         requires { IsStorable row.now }
-        ensures told { Told (Some self.old.rows) (Some self.new.rows) (λ before after. Adds before after row.now result) }
+        ensures told { Told (Some self.old.rows) (Some self.new.rows)
+            (λ before after. Adds before after row.now result) }
         ensures asked { AddAsked row.now result }
         ensures cause { FaultRose self.old.faults self.new.faults result }
         // It fails exactly where its plan says, before its change or after it.
@@ -90,11 +97,13 @@ impl Keeper for MemoryKeeper {
         settled: &Settled,
     ) -> Result<(), KeepRefusal>
         requires { IsStorableSettled settled.now }
-        ensures told { Told (Some self.old.rows) (Some self.new.rows) (λ before after. Settles before after desk reference.now settled.now result) }
+        ensures told { Told (Some self.old.rows) (Some self.new.rows)
+            (λ before after. Settles before after desk reference.now settled.now result) }
         ensures asked { SettleAsked desk reference.now result }
         ensures cause { FaultRose self.old.faults self.new.faults result }
         // It fails exactly where its plan says, before its change or after it.
-        ensures planned { SettlesAt (next_moment self.old.plan self.old.calls) self.old.rows self.new.rows desk reference.now settled.now result }
+        ensures planned { SettlesAt (next_moment self.old.plan self.old.calls)
+            self.old.rows self.new.rows desk reference.now settled.now result }
         ensures counted { IsCounted self.old self.new result }
     {
         let result = match begin(&self.plan, &mut self.calls) {
@@ -115,7 +124,8 @@ impl Keeper for MemoryKeeper {
         desk: u32,
         reference: &Reference,
     ) -> Result<Option<Row>, KeepRefusal>
-        ensures told { Told (Some self.old.rows) (Some self.new.rows) (λ before after. (after ≡ before) × Finds before table desk reference.now result) }
+        ensures told { Told (Some self.old.rows) (Some self.new.rows)
+            (λ before after. (after ≡ before) × Finds before table desk reference.now result) }
         ensures asked { FindAsked table desk reference.now result }
         ensures cause { FaultRose self.old.faults self.new.faults result }
         // It fails exactly where its plan says.
@@ -131,7 +141,8 @@ impl Keeper for MemoryKeeper {
     }
 
     fn of_desk(&mut self, alloc: Global, table: Table, desk: u32) -> Result<Rows, KeepRefusal>
-        ensures told { Told (Some self.old.rows) (Some self.new.rows) (λ before after. (after ≡ before) × ListsDesk before table desk result) }
+        ensures told { Told (Some self.old.rows) (Some self.new.rows)
+            (λ before after. (after ≡ before) × ListsDesk before table desk result) }
         ensures asked { DeskAsked table desk result }
         ensures cause { FaultRose self.old.faults self.new.faults result }
         // It fails exactly where its plan says.
@@ -153,7 +164,8 @@ impl Keeper for MemoryKeeper {
         desk: u32,
         holder: &Holder,
     ) -> Result<Rows, KeepRefusal>
-        ensures told { Told (Some self.old.rows) (Some self.new.rows) (λ before after. (after ≡ before) × ListsHolder before table desk holder.now result) }
+        ensures told { Told (Some self.old.rows) (Some self.new.rows)
+            (λ before after. (after ≡ before) × ListsHolder before table desk holder.now result) }
         ensures asked { HolderAsked table desk holder.now result }
         ensures cause { FaultRose self.old.faults self.new.faults result }
         // It fails exactly where its plan says.
@@ -169,7 +181,8 @@ impl Keeper for MemoryKeeper {
     }
 
     fn count(&mut self, _alloc: Global, table: Table, desk: u32) -> Result<u64, KeepRefusal>
-        ensures told { Told (Some self.old.rows) (Some self.new.rows) (λ before after. (after ≡ before) × Counts before table desk result) }
+        ensures told { Told (Some self.old.rows) (Some self.new.rows)
+            (λ before after. (after ≡ before) × Counts before table desk result) }
         ensures asked { CountAsked result }
         ensures cause { FaultRose self.old.faults self.new.faults result }
         // It fails exactly where its plan says.

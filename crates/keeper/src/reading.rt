@@ -1,5 +1,5 @@
 // What is read of a list of rows by its index.
-ghost use Rattle.std.specs.Prelude.{◌≡◌, ◌++◌, Err, IfSome, IfErr, OnOk, length, option_to_list, slice_get};
+ghost use Rattle.std.specs.Prelude.{◌≡◌, ◌++◌, IfSome, IfErr, OnOk, length, option_to_list, slice_get};
 ghost use Rattle.std.specs.List.{All, filter_map};
 ghost use Rattle.std.specs.Option.{option_copied};
 ghost use Rattle.keeper.specs.declared.keeping.KeepRefusal.TheVariants.{NoMemory as RefusedNoMemory};
@@ -62,10 +62,7 @@ pub(crate) fn copy_at(
     ensures own { IfErr result (λ refusal. refusal ≡ RefusedNoMemory) }
 {
     match row_at(rows, index, table, desk, reference) {
-        Some(row) => match row.copy(alloc) {
-            Ok(row) => Ok(Some(row)),
-            Err(_) => Err(KeepRefusal::NoMemory),
-        },
+        Some(row) => Ok(Some(row.copy(alloc)?)),
         None => Ok(None),
     }
 }

@@ -1,5 +1,5 @@
 // Rows as a list that a reading gives.
-ghost use Rattle.std.specs.Prelude.{◌≡◌, [], ◌∷◌, ◌++◌, Err, length, OnOk, IfErr, slice_get};
+ghost use Rattle.std.specs.Prelude.{◌≡◌, [], ◌∷◌, ◌++◌, length, OnOk, IfErr, slice_get};
 ghost use Rattle.std.specs.Option.{option_copied};
 ghost use Rattle.keeper.specs.declared.keeping.KeepRefusal.TheVariants.{NoMemory as RefusedNoMemory};
 
@@ -39,12 +39,8 @@ impl Rows {
         ensures pushed { OnOk result (self.new ≡ self.old ++ row.now ∷ []) }
         ensures refused { IfErr result (λ refusal. (refusal ≡ RefusedNoMemory) × (self.new ≡ self.old)) }
     {
-        let Ok(row) = row.copy(self.alloc) else {
-            return Err(KeepRefusal::NoMemory);
-        };
-        if self.rows.push(row).is_err() {
-            return Err(KeepRefusal::NoMemory);
-        }
+        let row = row.copy(self.alloc)?;
+        self.rows.push(row)?;
         Ok(())
     }
 

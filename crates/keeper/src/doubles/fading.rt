@@ -46,7 +46,8 @@ impl Keeper for FadingKeeper {
 
     fn add(&mut self, alloc: Global, row: &Row) -> Result<(), KeepRefusal>
         requires { IsStorable row.now }
-        ensures told { Told (told_if self.old.clean self.old.kept.rows) (told_if self.new.clean self.new.kept.rows) (λ before after. Adds before after row.now result) }
+        ensures told { Told (told_if self.old.clean self.old.kept.rows) (told_if self.new.clean self.new.kept.rows)
+            (λ before after. Adds before after row.now result) }
         ensures asked { AddAsked row.now result }
         ensures cause { FaultRose self.old.kept.faults self.new.kept.faults result }
         // It tells until a call is refused.
@@ -67,7 +68,8 @@ impl Keeper for FadingKeeper {
         settled: &Settled,
     ) -> Result<(), KeepRefusal>
         requires { IsStorableSettled settled.now }
-        ensures told { Told (told_if self.old.clean self.old.kept.rows) (told_if self.new.clean self.new.kept.rows) (λ before after. Settles before after desk reference.now settled.now result) }
+        ensures told { Told (told_if self.old.clean self.old.kept.rows) (told_if self.new.clean self.new.kept.rows)
+            (λ before after. Settles before after desk reference.now settled.now result) }
         ensures asked { SettleAsked desk reference.now result }
         ensures cause { FaultRose self.old.kept.faults self.new.kept.faults result }
         // It tells until a call is refused.
@@ -87,7 +89,8 @@ impl Keeper for FadingKeeper {
         desk: u32,
         reference: &Reference,
     ) -> Result<Option<Row>, KeepRefusal>
-        ensures told { Told (told_if self.old.clean self.old.kept.rows) (told_if self.new.clean self.new.kept.rows) (λ before after. (after ≡ before) × Finds before table desk reference.now result) }
+        ensures told { Told (told_if self.old.clean self.old.kept.rows) (told_if self.new.clean self.new.kept.rows)
+            (λ before after. (after ≡ before) × Finds before table desk reference.now result) }
         ensures asked { FindAsked table desk reference.now result }
         ensures cause { FaultRose self.old.kept.faults self.new.kept.faults result }
         // It tells until a call is refused.
@@ -101,7 +104,8 @@ impl Keeper for FadingKeeper {
     }
 
     fn of_desk(&mut self, alloc: Global, table: Table, desk: u32) -> Result<Rows, KeepRefusal>
-        ensures told { Told (told_if self.old.clean self.old.kept.rows) (told_if self.new.clean self.new.kept.rows) (λ before after. (after ≡ before) × ListsDesk before table desk result) }
+        ensures told { Told (told_if self.old.clean self.old.kept.rows) (told_if self.new.clean self.new.kept.rows)
+            (λ before after. (after ≡ before) × ListsDesk before table desk result) }
         ensures asked { DeskAsked table desk result }
         ensures cause { FaultRose self.old.kept.faults self.new.kept.faults result }
         // It tells until a call is refused.
@@ -121,7 +125,8 @@ impl Keeper for FadingKeeper {
         desk: u32,
         holder: &Holder,
     ) -> Result<Rows, KeepRefusal>
-        ensures told { Told (told_if self.old.clean self.old.kept.rows) (told_if self.new.clean self.new.kept.rows) (λ before after. (after ≡ before) × ListsHolder before table desk holder.now result) }
+        ensures told { Told (told_if self.old.clean self.old.kept.rows) (told_if self.new.clean self.new.kept.rows)
+            (λ before after. (after ≡ before) × ListsHolder before table desk holder.now result) }
         ensures asked { HolderAsked table desk holder.now result }
         ensures cause { FaultRose self.old.kept.faults self.new.kept.faults result }
         // It tells until a call is refused.
@@ -135,7 +140,8 @@ impl Keeper for FadingKeeper {
     }
 
     fn count(&mut self, alloc: Global, table: Table, desk: u32) -> Result<u64, KeepRefusal>
-        ensures told { Told (told_if self.old.clean self.old.kept.rows) (told_if self.new.clean self.new.kept.rows) (λ before after. (after ≡ before) × Counts before table desk result) }
+        ensures told { Told (told_if self.old.clean self.old.kept.rows) (told_if self.new.clean self.new.kept.rows)
+            (λ before after. (after ≡ before) × Counts before table desk result) }
         ensures asked { CountAsked result }
         ensures cause { FaultRose self.old.kept.faults self.new.kept.faults result }
         // It tells until a call is refused.

@@ -71,7 +71,8 @@ impl Keeper for LateKeeper {
         desk: u32,
         reference: &Reference,
     ) -> Result<Option<Row>, KeepRefusal>
-        ensures told { Told None None (λ before after. (after ≡ before) × Finds before table desk reference.now result) }
+        ensures told { Told None None
+            (λ before after. (after ≡ before) × Finds before table desk reference.now result) }
         ensures asked { FindAsked table desk reference.now result }
         ensures cause { FaultRose self.old.faults self.new.faults result }
     {
@@ -96,7 +97,8 @@ impl Keeper for LateKeeper {
         desk: u32,
         holder: &Holder,
     ) -> Result<Rows, KeepRefusal>
-        ensures told { Told None None (λ before after. (after ≡ before) × ListsHolder before table desk holder.now result) }
+        ensures told { Told None None
+            (λ before after. (after ≡ before) × ListsHolder before table desk holder.now result) }
         ensures asked { HolderAsked table desk holder.now result }
         ensures cause { FaultRose self.old.faults self.new.faults result }
     {
