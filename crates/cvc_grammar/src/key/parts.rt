@@ -15,16 +15,13 @@ fn after_object(tag: Tag, bytes: &[u8]) -> Option<&[u8]>
         onward tag others (first_object bytes.now) ≡ (option_map (λ r. r.now) result gives others) }
     ensures within { IfSome result (λ r. length r.now ≤ length bytes.now) }
 {
-    match next_object(bytes) {
-        Ok((found, content, rest)) => {
-            if found == tag && !content.is_empty() {
-                Some(rest)
-            } else {
-                None
-            }
-        }
-        Err(_) => None,
+    let Ok((found, content, rest)) = next_object(bytes) else {
+        return None;
+    };
+    if found != tag || content.is_empty() {
+        return None;
     }
+    Some(rest)
 }
 
 /// What follows the objects of a domain.

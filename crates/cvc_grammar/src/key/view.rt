@@ -15,23 +15,20 @@ use tlv_core::next_object;
 fn with_point<'a>(algorithm: Algorithm, domain: &'a [u8], bytes: &'a [u8]) -> Option<KeyParts<'a>>
     ensures { option_map seen_key result ≡ order.elliptic_after algorithm domain.now (first_object bytes.now) }
 {
-    match next_object(bytes) {
-        Ok((tag, point, rest)) => {
-            if tag == 0x86 {
-                Some(KeyParts {
-                    key: KeyView {
-                        algorithm,
-                        domain,
-                        point,
-                    },
-                    cofactor: rest,
-                })
-            } else {
-                None
-            }
-        }
-        Err(_) => None,
+    let Ok((tag, point, rest)) = next_object(bytes) else {
+        return None;
+    };
+    if tag != 0x86 {
+        return None;
     }
+    Some(KeyParts {
+        key: KeyView {
+            algorithm,
+            domain,
+            point,
+        },
+        cofactor: rest,
+    })
 }
 
 /// The key of these values: its domain, where all of it stands at the front, and the point.
@@ -108,14 +105,12 @@ fn legal_key<'a>(algorithm: Algorithm, values: &'a [u8]) -> Option<KeyParts<'a>>
 pub fn view_key(content: &[u8]) -> Option<KeyParts>
     ensures { option_map seen_key result ≡ order.read_key content.now }
 {
-    match next_object(content) {
-        Err(_) => None,
-        Ok((tag, identifier, values)) => {
-            if tag != 0x06 {
-                return None;
-            }
-            let algorithm = algorithm_of(identifier)?;
-            legal_key(algorithm, values)
-        }
+    let Ok((tag, identifier, values)) = next_object(content) else {
+        return None;
+    };
+    if tag != 0x06 {
+        return None;
     }
+    let algorithm = algorithm_of(identifier)?;
+    legal_key(algorithm, values)
 }
