@@ -3,9 +3,9 @@
 //!
 //! A certificate is a row of data objects that ends with a signature. `view_cert` reads one where it lies and takes no
 //! memory, `read_cert` copies what it read. Both read the whole input in one order, and answer the first step that
-//! fails. `write_body` writes what a signature is over, `finish_cert` makes the whole of those bytes and the signature, and
-//! `write_cert` does both. `view_request` and `read_request` do so for requests, whose view also shows what each of their
-//! signatures is over; they are written by three calls, one for each thing that is signed or sent.
+//! fails. `write_body` writes what a signature is over, `finish_cert` makes the whole of those bytes and the signature,
+//! and `write_cert` does both. `view_request` and `read_request` do so for requests, whose view also shows what each of
+//! their signatures is over; they are written by three calls, one for each thing that is signed or sent.
 //!
 //! A certificate and a request have one text, and a text is of one of them; what was written is read, and what was read
 //! is written: the functions of `laws` say so.

@@ -7,7 +7,6 @@ ghost use Rattle.cvc_grammar.specs.Views.{seen_cert, refused_cvc, RefusedFirst};
 ghost use Rattle.cvc_grammar.specs.declared.certificate.Cert.{Cert};
 
 use crate::extensions::own_extensions;
-use crate::key::KeyParts;
 use crate::key::copy::own_key;
 use crate::{Cert, CertBody, CertView, ReadCvc, view_cert};
 use eac_base::{NoMemory, Octets, are_bytes};
@@ -18,13 +17,7 @@ impl CertView<'_> {
     pub fn to_cert(&self, alloc: Global) -> Result<Cert, NoMemory>
         ensures { IfOk result (λ c. c ≡ seen_cert self.now) }
     {
-        let key = own_key(
-            alloc,
-            KeyParts {
-                key: self.key,
-                cofactor: self.cofactor,
-            },
-        )?;
+        let key = own_key(alloc, self.key, self.cofactor)?;
         let extensions = own_extensions(alloc, self.extensions)?;
         let signature = Octets::from_slice(alloc, self.signature)?;
         Ok(Cert {

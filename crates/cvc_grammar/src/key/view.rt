@@ -6,8 +6,8 @@ ghost use Rattle.signature_provider.specs.Key.{domain_tags, algorithm_identifier
 ghost use Rattle.cvc_grammar.specs.KeyObject as order;
 ghost use Rattle.cvc_grammar.specs.Views.{seen_key};
 
-use super::KeyParts;
 use super::parts::{after_domain, is_key};
+use super::{KeyParts, identifier_of};
 use signature_provider::{Algorithm, KeyView};
 use tlv_core::next_object;
 
@@ -73,21 +73,7 @@ fn algorithm_of(identifier: &[u8]) -> Option<Algorithm>
         arc: identifier[8],
         last: identifier[9],
     };
-    if identifier
-        == [
-            0x04,
-            0x00,
-            0x7f,
-            0x00,
-            0x07,
-            0x02,
-            0x02,
-            0x02,
-            algorithm.arc,
-            algorithm.last,
-        ]
-        .as_slice()
-    {
+    if identifier == identifier_of(algorithm).as_slice() {
         Some(algorithm)
     } else {
         None

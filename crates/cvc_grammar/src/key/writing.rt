@@ -3,6 +3,7 @@ ghost use Rattle.std.specs.Prelude.{◌≡◌, ◌++◌, ◌<◌, ◌≤◌, len
 ghost use Rattle.tlv_core.specs.Object.{object};
 ghost use Rattle.signature_provider.specs.Key as keys;
 
+use super::identifier_of;
 use crate::object_writing::{object_size, push_head, push_object};
 use eac_base::{NoMemory, Octets};
 use signature_provider::{Algorithm, Key};
@@ -10,19 +11,7 @@ use signature_provider::{Algorithm, Key};
 fn push_identifier(out: &mut Octets, algorithm: Algorithm) -> Result<(), NoMemory>
     ensures { OnOk result (out.new ≡ out.old ++ object 0x06 (keys.algorithm_identifier algorithm)) }
 {
-    let identifier = [
-        0x04,
-        0x00,
-        0x7f,
-        0x00,
-        0x07,
-        0x02,
-        0x02,
-        0x02,
-        algorithm.arc,
-        algorithm.last,
-    ];
-    push_object(out, 0x06, &identifier)
+    push_object(out, 0x06, &identifier_of(algorithm))
 }
 
 /// The bytes of what stands behind the identifier.

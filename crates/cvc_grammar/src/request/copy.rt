@@ -8,7 +8,6 @@ ghost use Rattle.cvc_grammar.specs.RequestViews.{seen_outer, seen_request};
 ghost use Rattle.cvc_grammar.specs.declared.request.Request.{Request};
 
 use crate::extensions::own_extensions;
-use crate::key::KeyParts;
 use crate::key::copy::own_key;
 use crate::{Outer, OuterView, ReadCvc, Request, RequestBody, RequestView, view_request};
 use eac_base::{NoMemory, Octets, are_bytes};
@@ -31,13 +30,7 @@ impl RequestView<'_> {
     pub fn to_request(&self, alloc: Global) -> Result<Request, NoMemory>
         ensures { IfOk result (λ r. r ≡ seen_request self.now) }
     {
-        let key = own_key(
-            alloc,
-            KeyParts {
-                key: self.key,
-                cofactor: self.cofactor,
-            },
-        )?;
+        let key = own_key(alloc, self.key, self.cofactor)?;
         let extensions = own_extensions(alloc, self.extensions)?;
         let inner = Octets::from_slice(alloc, self.inner)?;
         let outer = own_outer(alloc, &self.outer)?;
