@@ -12,6 +12,7 @@ use Rattle.chat_rights.specs.declared.Kind.{Kind}
 use Rattle.chat_rights.specs.declared.Kind.TheVariants.{Inspection}
 use Rattle.chat_rights.specs.declared.Role.{Role}
 use Rattle.chat_rights.specs.declared.Role.TheVariants.{Cvca, Domestic, Foreign, Terminal}
+use Rattle.chat_rights.specs.Kinds.{rights_fit}
 use Rattle.chat_rights.specs.Template.{role_number, template_byte}
 use Rattle.signature_provider.specs.declared.key.Algorithm.{Algorithm}
 use Rattle.signature_provider.specs.Key.{is_algorithm}
@@ -95,17 +96,18 @@ reference_front r rest is =
     then_is (counted_in 1 (counted 1 r ++ rest)) _ (r, rest) (counted_front 1 r rest (short_reference r is))
     ∙ only_true (is_reference r) (r, rest) is
 
-authority_front : (kind : Kind) (role : Role) (rights : ℕ) (rest : List ℕ) → is_cvca role ≡ true → nat_lt rights 64 ≡ true → authority_in ((64 * role_number role + rights) ∷ rest) ≡ Some (record { kind = kind; role = role; rights = rights }, rest)
-authority_front Inspection Cvca rights rest is small =
-    let below : rights < 64 = grind (arith, nat_tests) in
+authority_front : (kind : Kind) (role : Role) (rights : ℕ) (rest : List ℕ) → is_cvca role ≡ true → rights_fit kind rights ≡ true → authority_in ((64 * role_number role + rights) ∷ rest) ≡ Some (record { kind = kind; role = role; rights = rights }, rest)
+authority_front Inspection Cvca rights rest is fits =
+    let small : nat_lt rights 64 ≡ true = fits in
+    let below : rights < 64 = grind (arith, nat_tests, small) in
     let role : ((64 * 3 + rights) / 64 == 3) ≡ true = grind (arith, nat_tests) in
     let bits : (64 * 3 + rights) % 64 ≡ rights = omega (arith, below) in
     then_is (number_in 1 ((64 * 3 + rights) ∷ rest)) _ (64 * 3 + rights, rest) (one_front (64 * 3 + rights) rest)
     ∙ only_true ((64 * 3 + rights) / 64 == 3) _ role
     ∙ ap (λ (n : ℕ). Some (record { kind = Inspection; role = Cvca; rights = n }, rest)) bits
-authority_front Inspection Domestic rights rest is small = absurd (cc (is))
-authority_front Inspection Foreign rights rest is small = absurd (cc (is))
-authority_front Inspection Terminal rights rest is small = absurd (cc (is))
+authority_front Inspection Domestic rights rest is fits = absurd (cc (is))
+authority_front Inspection Foreign rights rest is fits = absurd (cc (is))
+authority_front Inspection Terminal rights rest is fits = absurd (cc (is))
 
 day_front : (n : ℕ) (rest : List ℕ) → is_day n ≡ true → day_in (big_endian 2 n ++ rest) ≡ Some (n, rest)
 day_front n rest is =
@@ -142,7 +144,7 @@ point_front p rest is =
     let key : is_kept_key p.key ≡ true = and_right _ _ is in
     let until : is_day p.until ≡ true = and_right _ _ (and_left _ _ is) in
     let from : is_day p.from ≡ true = and_right _ _ (and_left _ _ (and_left _ _ is)) in
-    let rights : nat_lt p.template.rights 64 ≡ true = and_right _ _ (and_left _ _ (and_left _ _ (and_left _ _ is))) in
+    let rights : rights_fit p.template.kind p.template.rights ≡ true = and_right _ _ (and_left _ _ (and_left _ _ (and_left _ _ is))) in
     let role : is_cvca p.template.role ≡ true = and_right _ _ (and_left _ _ (and_left _ _ (and_left _ _ (and_left _ _ is)))) in
     let reference : is_reference p.reference ≡ true = and_left _ _ (and_left _ _ (and_left _ _ (and_left _ _ (and_left _ _ is)))) in
     let t4 : List ℕ = key_text p.key ++ rest in

@@ -10,6 +10,7 @@ use Rattle.chat_rights.specs.declared.Kind.TheVariants.{Inspection}
 use Rattle.chat_rights.specs.declared.Role.{Role}
 use Rattle.chat_rights.specs.declared.Role.TheVariants.{Cvca, Domestic, Foreign, Terminal}
 use Rattle.chat_rights.specs.declared.Template.{Template}
+use Rattle.chat_rights.specs.Kinds.{rights_fit}
 use Rattle.chat_rights.specs.Template.{template_byte}
 use Rattle.signature_provider.specs.declared.key.Algorithm.{Algorithm}
 use Rattle.signature_provider.specs.Key.{is_algorithm}
@@ -33,7 +34,7 @@ is_kept_key k = is_algorithm k.algorithm && nat_le (length k.domain) 1024 && not
 
 -- An authority's point, whose parts have room.
 abbrev pub is_kept_point : TrustPoint → Bool
-is_kept_point p = is_reference p.reference && is_cvca p.template.role && nat_lt p.template.rights 64 && is_day p.from && is_day p.until && is_kept_key p.key
+is_kept_point p = is_reference p.reference && is_cvca p.template.role && rights_fit p.template.kind p.template.rights && is_day p.from && is_day p.until && is_kept_key p.key
 
 -- The references differ, and the older one takes effect earlier.
 abbrev pub comes_before : TrustPoint → TrustPoint → Bool

@@ -87,7 +87,7 @@ pub trait ChipDisk {
         ensures spare { spare self.old - 1 ≤ spare self.new }
         ensures cause { HasCause (faults self.old) (faults self.new) result };
 
-    /// ImportsCert room for 32 device calls. It is no device call, and changes nothing else.
+    /// Takes room for 32 device calls. It is no device call, and changes nothing else.
     ///
     /// # Errors
     ///

@@ -1,5 +1,5 @@
 // A certificate is imported.
-ghost use Rattle.std.specs.Prelude.{◌≡◌, ◌≢◌, ◌≤◌, ◌+◌, Some, None, Ok, Err, OnOk, OnErr, true, false};
+ghost use Rattle.std.specs.Prelude.{◌≡◌, ◌≢◌, ◌≤◌, ◌+◌, Some, Err, OnOk, OnErr, true, false};
 ghost use Rattle.eac_base.specs.Causes.{HasCause, Rose};
 ghost use Rattle.cvc_grammar.specs.Views.{seen_cert};
 ghost use Rattle.chip_verify.specs.Views.{IsView};

@@ -1,5 +1,5 @@
 // A chip is made.
-ghost use Rattle.std.specs.Prelude.{◌≡◌, ◌≢◌, ◌≤◌, ◌↔◌, ◌⊎◌, Some, None, Ok, Err, IfSome, true, false};
+ghost use Rattle.std.specs.Prelude.{◌≡◌, ◌≢◌, ◌≤◌, ◌↔◌, ◌⊎◌, None, Err, IfSome, true, false};
 ghost use Rattle.eac_base.specs.Causes.{Rose};
 ghost use Rattle.chip_verify.specs.Views.{IsView, seen_body};
 ghost use Rattle.chip_verify.specs.Root.{first_trust};

@@ -1,5 +1,5 @@
 // A whole memory, read.
-ghost use Rattle.std.specs.Prelude.{◌≡◌, ◌≤◌, ◌<◌, ◌*◌, ◌/◌, length, Some, None, OnOk, IfOk, IfSome, is_ok, drop};
+ghost use Rattle.std.specs.Prelude.{◌≡◌, ◌≤◌, ◌<◌, ◌*◌, length, None, OnOk, IfOk, IfSome, is_ok, drop};
 ghost use Rattle.std.specs.Prelude.{slice_index, if◌then◌else◌, true};
 ghost use Rattle.eac_base.specs.Causes.{HasCause};
 ghost use Rattle.chip_slots.specs.Calls.{DeviceCalls};

@@ -1,6 +1,6 @@
 // A disk in memory.
 ghost use Rattle.std.specs.Prelude.{◌≡◌, ◌≤◌, ◌<◌, ◌+◌, ◌-◌, ◌++◌, ◌∷◌, ◌↔◌, ◌⊎◌, [], vec_len, vec_capacity, ℕ, length};
-ghost use Rattle.std.specs.Prelude.{Some, None, OnOk, IfOk, IfSome, option_map, OnErr, IsErr, IsTrue, is_ok};
+ghost use Rattle.std.specs.Prelude.{OnOk, IfOk, IfSome, option_map, OnErr, IsErr, IsTrue, is_ok};
 ghost use Rattle.std.specs.Prelude.{slice_range};
 ghost use Rattle.eac_base.specs.Causes.{HasCause};
 ghost use Rattle.eac_base.specs.Planned.{IsPlanned};

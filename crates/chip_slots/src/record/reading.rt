@@ -42,7 +42,7 @@ fn two_bytes_in(bytes: &[u8]) -> Option<(u32, &[u8])>
 {
     let (front, rest) = bytes_in(2, bytes)?;
     match front {
-        [a, b] => Some((256 * *a as u32 + *b as u32, rest)),
+        [a, b] => Some((u16::from_be_bytes([*a, *b]) as u32, rest)),
         _ => None,
     }
 }

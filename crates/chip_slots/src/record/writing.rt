@@ -1,7 +1,8 @@
 // The record of a slot, written.
-ghost use Rattle.std.specs.Prelude.{◌≡◌, ◌≤◌, ◌<◌, ◌+◌, ◌++◌, length, IfSome, IsTrue};
+ghost use Rattle.std.specs.Prelude.{◌≡◌, ◌≤◌, ◌+◌, ◌++◌, length, IfSome, IsTrue};
 ghost use Rattle.eac_base.specs.Bytes.{big_endian};
 ghost use Rattle.chip_verify.specs.Trust.{IsPoint, ComesBefore};
+ghost use Rattle.chat_rights.specs.Kinds.{rights_fit};
 ghost use Rattle.chat_rights.specs.Template.{template_byte};
 ghost use Rattle.chip_slots.specs.Slot as words;
 
@@ -27,10 +28,10 @@ fn one_byte(number: usize) -> [u8; 1]
     [(number % 256) as u8]
 }
 
-fn two_bytes(number: u64) -> [u8; 2]
+fn two_bytes(number: u16) -> [u8; 2]
     ensures { result ≡ big_endian 2 number }
 {
-    [(number / 256 % 256) as u8, (number % 256) as u8]
+    number.to_be_bytes()
 }
 
 fn eight_bytes(number: u64) -> [u8; 8]
@@ -47,15 +48,15 @@ fn put_key(text: &mut RecordBytes, key: &ChipKey)
 {
     let view = key.view();
     put(text, &[view.algorithm.arc, view.algorithm.last]);
-    put(text, &two_bytes(view.domain.len() as u64));
+    put(text, &two_bytes(view.domain.len() as u16));
     put(text, view.domain);
-    put(text, &two_bytes(view.point.len() as u64));
+    put(text, &two_bytes(view.point.len() as u16));
     put(text, view.point);
 }
 
 fn template_byte(template: Template) -> u8
     ensures byte { result ≡ template_byte template }
-    ensures rights { template.rights < 64 }
+    ensures fit { IsTrue (rights_fit template.kind template.rights) }
 {
     64 * template.role.number() + template.rights.bits() as u8
 }
@@ -70,8 +71,8 @@ fn put_point(text: &mut RecordBytes, point: &TrustPoint)
     put(text, &one_byte(reference.len()));
     put(text, reference);
     put(text, &[template_byte(point.template)]);
-    put(text, &two_bytes(point.from.number() as u64));
-    put(text, &two_bytes(point.until.number() as u64));
+    put(text, &two_bytes(point.from.number() as u16));
+    put(text, &two_bytes(point.until.number() as u16));
     put_key(text, &point.key);
 }
 
@@ -105,7 +106,7 @@ pub fn write_record(state: &ChipState, generation: u64) -> RecordBytes
     let mut text = RecordBytes::new();
     put(&mut text, &[FORM]);
     put(&mut text, &eight_bytes(generation));
-    put(&mut text, &two_bytes(state.day.number() as u64));
+    put(&mut text, &two_bytes(state.day.number() as u16));
     put_points(&mut text, &state.older, &state.newest);
     text
 }

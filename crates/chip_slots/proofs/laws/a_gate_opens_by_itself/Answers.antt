@@ -1,5 +1,4 @@
 use Rattle.chip_slots.proofs.SlotWrites.{opening}
-use Rattle.chip_slots.proofs.DeviceWork.{then_sync, then_read, works_then, no_work, done_call}
 use Rattle.chip_slots.proofs.laws.a_gate_opens_by_itself.Goals as goal
 
 pub returns : goal.returns

@@ -1,4 +1,4 @@
-use Rattle.std.proofs.Common.{sym, ap, ◌∙◌}
+use Rattle.std.proofs.Common.{ap, ◌∙◌}
 use Rattle.chip_slots.specs.Gates.{seen_gate}
 use Rattle.chip_slots.specs.Ready.{ReadsAs}
 use Rattle.chip_slots.proofs.NewState.{on_ok, ok_gives, same_slots, says_there}

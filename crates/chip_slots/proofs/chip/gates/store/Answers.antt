@@ -1,6 +1,4 @@
 use Rattle.std.proofs.Common.{Some, inl, sym}
-use Rattle.chip_slots.specs.Crash.{Reads, Crash}
-use Rattle.chip_slots.specs.Image.{reads}
 use Rattle.chip_slots.specs.Ready.{ReadsAs, ReadsEither}
 use Rattle.chip_slots.proofs.NewState.{on_ok, ok_gives, same_slots, says_there, spare_image, spare_read, gate_read}
 use Rattle.chip_slots.proofs.DeviceWork.{works_then, works_map, no_work, then_read}

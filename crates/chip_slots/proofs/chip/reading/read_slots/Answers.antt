@@ -1,4 +1,4 @@
-use Rattle.std.proofs.Common.{◌≡◌, ◌∙◌, arith}
+use Rattle.std.proofs.Common.{◌∙◌, arith}
 use Rattle.chip_slots.specs.Found.{seen}
 use Rattle.chip_slots.proofs.Looking.{stays_read, stays_now, best_next}
 use Rattle.chip_slots.proofs.chip.reading.read_slots.Goals as goal

@@ -1,4 +1,4 @@
-use Rattle.std.proofs.Common.{◌≡◌, true, ℕ, ◌/◌, ◌%◌, ◌∙◌, ap}
+use Rattle.std.proofs.Common.{◌≡◌, true, ℕ, ◌/◌, ◌∙◌, ap}
 use Rattle.chip_slots.specs.Image.{is_memory}
 use Rattle.chip_slots.proofs.NewState.{on_ok, ok_gives}
 use Rattle.chip_slots.proofs.NextSlots.{spare_of, record_for, more_of}

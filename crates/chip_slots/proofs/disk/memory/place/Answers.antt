@@ -1,4 +1,4 @@
-use Rattle.std.proofs.Common.{◌≡◌, ℕ, ◌+◌, ◌-◌, length, arith}
+use Rattle.std.proofs.Common.{◌≡◌, ◌+◌, ◌-◌, length, arith}
 use Rattle.chip_slots.proofs.Recordings.{part_is}
 use Rattle.chip_slots.proofs.disk.memory.place.Goals as goal
 

@@ -1,4 +1,4 @@
-use Rattle.std.proofs.Common.{◌≡◌, ℕ, List, ◌+◌, ◌∙◌, ap, sym, set, arith}
+use Rattle.std.proofs.Common.{ℕ, List, ◌+◌, ◌∙◌, ap, sym, set, arith}
 use Rattle.chip_slots.proofs.Replaying.{put_none, put_next}
 use Rattle.chip_slots.proofs.disk.replay.fill.Goals as goal
 

@@ -1,4 +1,4 @@
-use Rattle.std.proofs.Common.{◌≡◌, ℕ, length, sym, subst, take, get_or, arith}
+use Rattle.std.proofs.Common.{ℕ, length, sym, subst, take, get_or, arith}
 use Rattle.chip_slots.specs.declared.disk.memory.Step.TheVariants as step
 use Rattle.chip_slots.specs.Steps.{IsWithin}
 use Rattle.chip_slots.proofs.Replaying.{step_at, written_at, replayed_size, replayed_next}

@@ -1,4 +1,4 @@
-use Rattle.std.proofs.Common.{◌≡◌, ℕ, length, take, reverse, ◌∙◌, ap}
+use Rattle.std.proofs.Common.{length, take, reverse, ◌∙◌, ap}
 use Rattle.chip_slots.proofs.Replaying.{range_in, torn_size}
 use Rattle.chip_slots.proofs.disk.replay.tear.Goals as goal
 

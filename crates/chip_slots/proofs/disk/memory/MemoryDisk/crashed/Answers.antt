@@ -1,4 +1,4 @@
-use Rattle.std.proofs.Common.{◌≡◌, ◌≤◌, ℕ, length, sym, ap, ◌∙◌, arith, length-take}
+use Rattle.std.proofs.Common.{◌≡◌, length, sym, ap, ◌∙◌, arith, length-take}
 use Rattle.chip_slots.specs.Recorded.{DiskValue, told_by}
 use Rattle.chip_slots.proofs.Recordings.{seen_count}
 use Rattle.chip_slots.proofs.Replaying.{until_within, until_texts, until_image, image_crash}

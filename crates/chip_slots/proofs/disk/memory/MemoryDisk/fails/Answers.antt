@@ -1,4 +1,4 @@
-use Rattle.std.proofs.Common.{◌≡◌, ◌↔◌, ◌⊎◌, ℕ, List, length, IsTrue, sym, ap, ◌∙◌, subst}
+use Rattle.std.proofs.Common.{◌≡◌, ◌↔◌, ◌⊎◌, ℕ, length, IsTrue, sym, ap, ◌∙◌, subst}
 use Rattle.eac_base.specs.Planned.{IsPlanned}
 use Rattle.chip_slots.specs.Recorded.{DiskValue, IsStopped, FailsNext}
 use Rattle.chip_slots.specs.Steps.{seen}

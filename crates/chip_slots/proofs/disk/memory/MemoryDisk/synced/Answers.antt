@@ -1,5 +1,5 @@
-use Rattle.std.proofs.Common.{◌≡◌, ◌<◌, ◌++◌, ◌∷◌, [], ℕ, length, sym, ap, ◌∙◌, subst}
-use Rattle.chip_slots.specs.Recorded.{DiskValue, Idle, Wrote, Torn, Synced}
+use Rattle.std.proofs.Common.{◌<◌, ◌++◌, ◌∷◌, [], sym, ap, ◌∙◌, subst}
+use Rattle.chip_slots.specs.Recorded.{DiskValue, Synced}
 use Rattle.chip_slots.specs.declared.disk.memory.Step.TheVariants as step
 use Rattle.chip_slots.proofs.Recordings.{seen_plain, synced_whole}
 use Rattle.chip_slots.proofs.disk.memory.MemoryDisk.synced.Goals as goal

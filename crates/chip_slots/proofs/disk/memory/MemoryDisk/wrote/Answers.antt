@@ -1,6 +1,5 @@
-use Rattle.std.proofs.Common.{Vec, Global, ◌≡◌, ◌<◌, ◌≤◌, ◌+◌, ◌++◌, ◌∷◌, [], ℕ, length, sym, ap, ◌∙◌, subst}
-use Rattle.chip_slots.specs.Recorded.{DiskValue, put, Idle, Wrote, Torn, Synced}
-use Rattle.chip_slots.specs.declared.disk.memory.Step.TheVariants as step
+use Rattle.std.proofs.Common.{Vec, Global, ◌<◌, ◌≤◌, ◌+◌, ◌++◌, ◌∷◌, [], ℕ, length, sym, ap, ◌∙◌, subst}
+use Rattle.chip_slots.specs.Recorded.{DiskValue, put, Wrote}
 use Rattle.chip_slots.proofs.Recordings.{seen_wrote, wrote_whole, fits_in, maps_twice}
 use Rattle.chip_slots.proofs.disk.memory.MemoryDisk.wrote.Goals as goal
 

@@ -1,4 +1,4 @@
-use Rattle.std.proofs.Common.{◌≡◌, length, sym, ap, ◌∙◌}
+use Rattle.std.proofs.Common.{length, sym, ap, ◌∙◌}
 use Rattle.chip_slots.specs.Recorded.{DiskValue}
 use Rattle.chip_slots.proofs.Recordings.{seen_count}
 use Rattle.chip_slots.proofs.disk.memory.MemoryDiskChipDisk.calls.Goals as goal
