@@ -33,5 +33,8 @@ pub use certificate::{Cert, CertBody, CertView};
 pub use refusal::{CvcRefusal, ObjectFault, ReadCvc};
 pub use request::copy::read_request;
 pub use request::view::view_request;
-pub use request::writing::{write_request, write_request_body, write_signed_part};
+pub use request::writing::{
+    finish_authenticated, finish_request, push_signer, write_request, write_request_body,
+    write_signed_part,
+};
 pub use request::{Outer, OuterView, Request, RequestBody, RequestView};

@@ -1,7 +1,8 @@
 // The texts of requests.
 ghost use Rattle.std.specs.Prelude.{◌≡◌, ◌++◌, ◌<◌, ◌≤◌, length, Some, IsTrue, IfOk, IfSome, OnOk};
 ghost use Rattle.holder_reference.specs.Reference.{is_reference};
-ghost use Rattle.cvc_grammar.specs.Certificate.{is_signature};
+ghost use Rattle.tlv_core.specs.Object.{object};
+ghost use Rattle.cvc_grammar.specs.Certificate.{is_signature, signature_object};
 ghost use Rattle.cvc_grammar.specs.Request as texts;
 ghost use Rattle.cvc_grammar.specs.Request.{HasLegalReferences, IsLegalRequestBody, IsLegalBare};
 ghost use Rattle.cvc_grammar.specs.Request.{IsLegalRequest, IsRequest};
@@ -49,6 +50,32 @@ pub fn write_request_body(alloc: Global, body: &RequestBody) -> Result<Octets, N
     write_object(alloc, 0x7f4e, content.as_slice())
 }
 
+/// The whole object 7F21 of the bare request whose body's whole object 7F4E and whose inner signature these are. So what
+/// was signed stands in the request as it is, and is not written again.
+pub fn finish_request(alloc: Global, body: &[u8], inner: &[u8]) -> Result<Octets, NoMemory>
+    requires { length (object 0x7f21 (body.now ++ signature_object inner.now)) ≤ texts.longest_request }
+    ensures { IfOk result (λ o. o ≡ object 0x7f21 (body.now ++ signature_object inner.now)) }
+{
+    write_signed(alloc, 0x7f21, body, inner)
+}
+
+/// The whole object 42 of the reference that signs behind a bare request, which makes it what an outer signature is over.
+/// Where memory is wanting a front of the object may stand there.
+pub fn push_signer(bare: &mut Octets, reference: &Reference) -> Result<(), NoMemory>
+    ensures text { OnOk result (bare.new ≡ bare.old ++ object 0x42 reference.now) }
+    ensures legal { OnOk result (IsTrue (is_reference reference.now)) }
+{
+    push_object(bare, 0x42, reference.as_slice())
+}
+
+/// The whole object 67 of the authenticated request whose outer signature is this one, over what [`push_signer`] made.
+pub fn finish_authenticated(alloc: Global, signed: &[u8], outer: &[u8]) -> Result<Octets, NoMemory>
+    requires { length (object 0x67 (signed.now ++ signature_object outer.now)) ≤ texts.longest_request }
+    ensures { IfOk result (λ o. o ≡ object 0x67 (signed.now ++ signature_object outer.now)) }
+{
+    write_signed(alloc, 0x67, signed, outer)
+}
+
 /// The whole object 7F21 of a request: the request without what stands around it. An outer signature is over these
 /// bytes and the whole object 42 of the reference that signs.
 pub fn write_signed_part(alloc: Global, request: &Request) -> Result<Octets, NoMemory>
@@ -57,7 +84,7 @@ pub fn write_signed_part(alloc: Global, request: &Request) -> Result<Octets, NoM
     ensures legal { IfOk result (λ _. HasLegalReferences request.now.body) }
 {
     let body = write_request_body(alloc, &request.body)?;
-    write_signed(alloc, 0x7f21, body.as_slice(), request.inner.as_slice())
+    finish_request(alloc, body.as_slice(), request.inner.as_slice())
 }
 
 fn write_with_outer(alloc: Global, request: &Request, outer: &Outer) -> Result<Octets, NoMemory>
@@ -69,8 +96,8 @@ fn write_with_outer(alloc: Global, request: &Request, outer: &Outer) -> Result<O
     ensures outer { IfOk result (λ _. IsTrue (is_reference outer.now.reference)) }
 {
     let mut signed = write_signed_part(alloc, request)?;
-    push_object(&mut signed, 0x42, outer.reference.as_slice())?;
-    write_signed(alloc, 0x67, signed.as_slice(), outer.signature.as_slice())
+    push_signer(&mut signed, &outer.reference)?;
+    finish_authenticated(alloc, signed.as_slice(), outer.signature.as_slice())
 }
 
 /// The whole object of a request: 67 where it has an outer part, else 7F21.
