@@ -30,7 +30,8 @@ abbrev pub last_content : ℕ → List ℕ → Option (List ℕ)
 last_content tag bytes = content_at tag bytes gives λ o. if is_empty o.1 then Some o.0 else None
 
 abbrev pub algorithm_in : List ℕ → Option Algorithm
-algorithm_in (arc ∷ last ∷ []) = let a : Algorithm = record { arc = arc; last = last } in if is_algorithm a then Some a else None
+algorithm_in (arc ∷ last ∷ []) =
+    let a : Algorithm = record { arc = arc; last = last } in if is_algorithm a then Some a else None
 algorithm_in [] = None
 algorithm_in (arc ∷ []) = None
 algorithm_in (arc ∷ last ∷ other ∷ more) = None

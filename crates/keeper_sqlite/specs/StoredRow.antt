@@ -1,5 +1,5 @@
--- The stored form of a row's part: data objects in a fixed order for each table, and nothing behind them (this project's
--- own).
+-- The stored form of a row's part: data objects in a fixed order for each table, and nothing behind them (this
+-- project's own).
 use Rattle.std.specs.Prelude.{◌≡◌, ℕ, ◌≤◌, List, [], ◌∷◌, ◌++◌, length, Option, Some, None, IfSome, IsTrue}
 use Rattle.tlv_core.specs.Object.{object}
 use Rattle.holder_reference.specs.Reference.{is_reference, is_holder}
@@ -38,7 +38,8 @@ if_settled (Some s) = settled_text s
 abbrev pub stored_text : Part → List ℕ
 stored_text (parts.Register request day) = object 0x80 request ++ object 0x8b day
 stored_text (parts.Issued p) = object 0x80 p.request ++ (key_text p.key ++ settled_text p.settled)
-stored_text (parts.Own p) = object 0x80 p.request ++ (key_text p.key ++ (object 0x85 p.authority ++ if_settled p.settled))
+stored_text (parts.Own p) =
+    object 0x80 p.request ++ (key_text p.key ++ (object 0x85 p.authority ++ if_settled p.settled))
 stored_text (parts.Ca p) = key_text p.key ++ settled_text p.settled
 
 -- ---- what a part's values are
