@@ -1,3 +1,4 @@
+pub use Rattle.tlv_core.specs.Object
 pub mod KeyObject
 pub mod Certificate
 pub mod Request
