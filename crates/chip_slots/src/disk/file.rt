@@ -188,7 +188,9 @@ impl ChipDisk for FileDisk {
         self.answer(done)
     }
 
-    fn reserve(&mut self) -> Result<(), NoMemory> {
+    fn reserve(&mut self) -> Result<(), NoMemory>
+        ensures same { self.new ≡ self.old }
+    {
         Ok(())
     }
 }

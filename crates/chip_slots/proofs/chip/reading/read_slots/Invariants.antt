@@ -1,4 +1,4 @@
-use Rattle.std.proofs.Common.{◌≡◌, ◌≤◌, ◌+◌, ◌-◌}
+use Rattle.std.proofs.Common.{◌≡◌, ◌≤◌, ◌+◌}
 use Rattle.chip_slots.specs.Image.{slot_says, greatest}
 use Rattle.chip_slots.specs.Found.{seen, Stays}
 use Rattle.chip_slots.proofs.chip.reading.read_slots.Given as goal
