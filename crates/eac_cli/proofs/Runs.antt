@@ -13,9 +13,9 @@ use Rattle.keeper.specs.declared.rows.Row.{Row}
 use Rattle.issue_core.specs.declared.rule.Rule.{Rule}
 use Rattle.ledger.specs.Ledger.{Delivery, entries}
 use Rattle.ledger.specs.Story.{Decides}
-use Rattle.issue_core.specs.Register.{Asked, Fault, Entries, register, unsigned, RegisterStory, delivery_of, entries_of, rows_left, rows_added}
+use Rattle.issue_core.specs.Registering.Desk.{Asked, RegisterFault, Entries, register, unsigned, RegisterStory, delivery_of, entries_of, rows_left, rows_added}
 use Rattle.ledger.proofs.StoryLaws.{story_more}
-use Rattle.issue_core.proofs.RowLaws.{entries_append, added_entries, added_rows, rows_added-append}
+use Rattle.issue_core.proofs.RegisterDesk.RowLaws.{entries_append, added_entries, added_rows, rows_added-append}
 use Rattle.eac_cli.specs.declared.event.Event.{Event}
 use Rattle.eac_cli.specs.declared.event.Event.TheVariants.{Day, Ask}
 use Rattle.eac_cli.specs.declared.event.EventLine.{EventLine}
@@ -122,7 +122,7 @@ KeepsStory before s = RegisterStory (entries_of before) s.register × (s.rows �
 ask_keeps : (before : List Row) (s t : State) (reference bytes : List ℕ) (answer : Answer) → KeepsStory before s → AskTurn s reference bytes answer t → KeepsStory before t
 ask_keeps before s t reference bytes answer h y =
     let asked : Asked = asked_on y.day reference bytes in
-    let d : Delivery Asked (List ℕ) Rule Fault = delivery_of asked (s.keeper, y.faults) y.outcome y.left in
+    let d : Delivery Asked (List ℕ) Rule RegisterFault = delivery_of asked (s.keeper, y.faults) y.outcome y.left in
     let now : entries_of s.rows ≡ entries_of before ++ entries register s.register = ap entries_of h.1 ∙ entries_append before (rows_added s.register) ∙ ap (λ (l : Entries). entries_of before ++ l) (added_entries s.register) in
     let story : RegisterStory (entries_of before) (s.register ++ d ∷ []) = story_more register unsigned (entries_of before) s.register d h.0 (subst (λ (l : Entries). Decides register unsigned l d) now y.decides) in
     let added : rows_added (s.register ++ d ∷ []) ≡ rows_added s.register ++ rows_left asked y.left = rows_added-append s.register (d ∷ []) ∙ ap (λ (l : List Row). rows_added s.register ++ l) (append-nil (rows_left asked y.left)) in

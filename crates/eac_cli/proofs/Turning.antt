@@ -8,14 +8,14 @@ use Rattle.eac_base.specs.Telling.{Told}
 use Rattle.eac_base.proofs.Tellings.{told_more, told_same}
 use Rattle.keeper.specs.declared.rows.Row.{Row}
 use Rattle.issue_core.specs.declared.rule.Rule.{Rule}
-use Rattle.issue_core.specs.declared.serving.RegisterAnswer.{RegisterAnswer}
-use Rattle.issue_core.specs.declared.serving.RegisterAnswer.TheVariants.{Issued as AnswerIssued, Kept as AnswerKept, Refused as AnswerRefused}
-use Rattle.issue_core.specs.declared.serving.IssueFault.{IssueFault}
-use Rattle.issue_core.specs.declared.serving.IssueFault.TheVariants.{KeeperFault, ProviderFault, NoKey, NoMemory as FaultNoMemory}
+use Rattle.issue_core.specs.declared.registering.serving.RegisterAnswer.{RegisterAnswer}
+use Rattle.issue_core.specs.declared.registering.serving.RegisterAnswer.TheVariants.{Issued as AnswerIssued, Kept as AnswerKept, Refused as AnswerRefused}
+use Rattle.issue_core.specs.declared.fault.IssueFault.{IssueFault}
+use Rattle.issue_core.specs.declared.fault.IssueFault.TheVariants.{KeeperFault, ProviderFault, NoKey, NoMemory as FaultNoMemory}
 use Rattle.ledger.specs.Ledger.{Outcome, Issued, Kept, Refused, Faulted, NoMemory}
 use Rattle.ledger.specs.Story.{Decides}
-use Rattle.issue_core.specs.Register.{Asked, Fault, register, unsigned, delivery_of, Serves, entries_of, rows_left, outcome_of, HasCause, RegisterCause}
-use Rattle.issue_core.proofs.RowLaws.{unheard, decides_unheard}
+use Rattle.issue_core.specs.Registering.Desk.{Asked, RegisterFault, register, unsigned, delivery_of, RegisterServes, entries_of, rows_left, register_outcome, RegisterFaults, RegisterCause}
+use Rattle.issue_core.proofs.RegisterDesk.RowLaws.{unheard, decides_unheard}
 use Rattle.eac_cli.specs.declared.event.Event.{Event}
 use Rattle.eac_cli.specs.declared.event.Event.TheVariants.{Day, Ask}
 use Rattle.eac_cli.specs.State.{State}
@@ -37,7 +37,7 @@ day_stepped event day m text is = (Silent, (tt, sym (append-nil text)), subst (�
 
 -- ---- an asking of the register
 
-ended_text : (reference : List ℕ) (outcome : Outcome (List ℕ) Rule Fault) → IsEnded (told_as reference outcome) → answer_text (told_as reference outcome) ≡ outcome_text reference outcome
+ended_text : (reference : List ℕ) (outcome : Outcome (List ℕ) Rule RegisterFault) → IsEnded (told_as reference outcome) → answer_text (told_as reference outcome) ≡ outcome_text reference outcome
 ended_text reference (Issued day) h = refl
 ended_text reference (Kept day) h = refl
 ended_text reference (Refused rule) h = refl
@@ -53,7 +53,7 @@ module _ (reference bytes : List ℕ) (day : ℕ) where
   asked = asked_on day reference bytes
 
   -- one delivery is one turn
-  ask_turn : (rows rows' : Option (List Row)) (before now : ℕ) (outcome : Outcome (List ℕ) Rule Fault) (r r' : List Row) → before ≤ now → Serves r r' asked (before, now) outcome → (s : State) → IsAt (on rows before) r s → (t : State) × Turn s (Ask reference bytes) (told_as reference outcome) t × IsAt (on rows' now) r' t
+  ask_turn : (rows rows' : Option (List Row)) (before now : ℕ) (outcome : Outcome (List ℕ) Rule RegisterFault) (r r' : List Row) → before ≤ now → RegisterServes r r' asked (before, now) outcome → (s : State) → IsAt (on rows before) r s → (t : State) × Turn s (Ask reference bytes) (told_as reference outcome) t × IsAt (on rows' now) r' t
   ask_turn rows rows' before now outcome r r' later serves s at =
       let one : Decides register unsigned (entries_of s.rows) (delivery_of asked (s.keeper, now) outcome serves.left) = subst (λ (x : List Row × ℕ). Decides register unsigned (entries_of x.0) (delivery_of asked (x.1, now) outcome serves.left)) (λ i. (sym at.rows_are i, sym at.keeper_is i)) serves.decides in
       let t : State = record s { rows = s.rows ++ rows_left asked serves.left; keeper = now; register = s.register ++ delivery_of asked (s.keeper, now) outcome serves.left ∷ [] } in
@@ -70,13 +70,13 @@ module _ (reference bytes : List ℕ) (day : ℕ) where
       } in
       (t, turn, record { day_is = at.day_is; rows_are = ap (λ (l : List Row). l ++ rows_left asked serves.left) at.rows_are ∙ sym serves.rows; keeper_is = refl })
 
-  ask_steps : (rows rows' : Option (List Row)) (before now : ℕ) (outcome : Outcome (List ℕ) Rule Fault) → Told rows rows' (λ r r'. Serves r r' asked (before, now) outcome) → before ≤ now → Counts before now outcome → MayCome (record { day = Some day; keeper = before }) reference bytes outcome → Steps (Ask reference bytes) (told_as reference outcome) (on rows before) (on rows' now)
+  ask_steps : (rows rows' : Option (List Row)) (before now : ℕ) (outcome : Outcome (List ℕ) Rule RegisterFault) → Told rows rows' (λ r r'. RegisterServes r r' asked (before, now) outcome) → before ≤ now → Counts before now outcome → MayCome (record { day = Some day; keeper = before }) reference bytes outcome → Steps (Ask reference bytes) (told_as reference outcome) (on rows before) (on rows' now)
   ask_steps rows rows' before now outcome serves later counts may = record {
     answered = (refl, later, outcome, refl, counts, may);
     turn = told_more _ _ rows rows' serves (λ r r' one. ask_turn rows rows' before now outcome r r' later one);
   }
 
-  may_come : (before now : ℕ) (result : Result RegisterAnswer IssueFault) → IfOk result (RegisterCause reference bytes (day_text day)) → MayCome (record { day = Some day; keeper = before }) reference bytes (outcome_of result)
+  may_come : (before now : ℕ) (result : Result RegisterAnswer IssueFault) → IfOk result (RegisterCause reference bytes (day_text day)) → MayCome (record { day = Some day; keeper = before }) reference bytes (register_outcome result)
   may_come before now (Ok (AnswerIssued given)) a = (day, refl, a)
   may_come before now (Ok (AnswerKept given)) a = a
   may_come before now (Ok (AnswerRefused rule)) a = a
@@ -88,7 +88,7 @@ module _ (reference bytes : List ℕ) (day : ℕ) where
   no_fault : (answer : RegisterAnswer) → Ok answer ≡ Err KeeperFault → ⊥
   no_fault answer e = cc
 
-  counts : (before now : ℕ) (result : Result RegisterAnswer IssueFault) → HasCause before now result → Counts before now (outcome_of result)
+  counts : (before now : ℕ) (result : Result RegisterAnswer IssueFault) → RegisterFaults before now result → Counts before now (register_outcome result)
   counts before now (Ok (AnswerIssued given)) h = h.quiet (no_fault (AnswerIssued given))
   counts before now (Ok (AnswerKept given)) h = h.quiet (no_fault (AnswerKept given))
   counts before now (Ok (AnswerRefused rule)) h = h.quiet (no_fault (AnswerRefused rule))
@@ -98,18 +98,18 @@ module _ (reference bytes : List ℕ) (day : ℕ) where
   counts before now (Err FaultNoMemory) h = h.later
 
   -- The register was asked, and its answer was appended. Where memory was wanting for that, it is an asking that nobody heard.
-  pub was_said : {E : Type 0} (rows rows' : Option (List Row)) (before now : ℕ) (result : Result RegisterAnswer IssueFault) (text : List ℕ) (out : Result (Unit {0}) E) (old new : List ℕ) → text ≡ day_text day → Told rows rows' (λ r r'. Serves r r' (record { reference = reference; bytes = bytes; day = text }) (before, now) (outcome_of result)) → HasCause before now result → IfOk result (RegisterCause reference bytes text) → OnOk out (new ≡ old ++ outcome_text reference (outcome_of result)) → OnOk out (IsEnded (told_as reference (outcome_of result))) → OnErr out (new ≡ old) → (answer : Answer) × Said out answer old new × Steps (Ask reference bytes) answer (on rows before) (on rows' now)
+  pub was_said : {E : Type 0} (rows rows' : Option (List Row)) (before now : ℕ) (result : Result RegisterAnswer IssueFault) (text : List ℕ) (out : Result (Unit {0}) E) (old new : List ℕ) → text ≡ day_text day → Told rows rows' (λ r r'. RegisterServes r r' (record { reference = reference; bytes = bytes; day = text }) (before, now) (register_outcome result)) → RegisterFaults before now result → IfOk result (RegisterCause reference bytes text) → OnOk out (new ≡ old ++ outcome_text reference (register_outcome result)) → OnOk out (IsEnded (told_as reference (register_outcome result))) → OnErr out (new ≡ old) → (answer : Answer) × Said out answer old new × Steps (Ask reference bytes) answer (on rows before) (on rows' now)
   was_said rows rows' before now result text (Ok u) old new is served cause answered pushed ended kept = (
-    told_as reference (outcome_of result),
-    (ended, pushed ∙ ap (λ (l : List ℕ). old ++ l) (sym (ended_text reference (outcome_of result) ended))),
-    ask_steps rows rows' before now (outcome_of result) (subst (λ (d : List ℕ). Told rows rows' (λ r r'. Serves r r' (record { reference = reference; bytes = bytes; day = d }) (before, now) (outcome_of result))) is served) cause.later
+    told_as reference (register_outcome result),
+    (ended, pushed ∙ ap (λ (l : List ℕ). old ++ l) (sym (ended_text reference (register_outcome result) ended))),
+    ask_steps rows rows' before now (register_outcome result) (subst (λ (d : List ℕ). Told rows rows' (λ r r'. RegisterServes r r' (record { reference = reference; bytes = bytes; day = d }) (before, now) (register_outcome result))) is served) cause.later
         (counts before now result cause)
         (may_come before now result (subst (λ (d : List ℕ). IfOk result (RegisterCause reference bytes d)) is answered)),
   )
   was_said rows rows' before now result text (Err e) old new is served cause answered pushed ended kept = (
     Memory,
     (refl, kept),
-    ask_steps rows rows' before now NoMemory (told_more _ _ rows rows' (subst (λ (d : List ℕ). Told rows rows' (λ r r'. Serves r r' (record { reference = reference; bytes = bytes; day = d }) (before, now) (outcome_of result))) is served) (λ r r' one. unheard r r' asked (before, now) (outcome_of result) one)) cause.later cause.later tt,
+    ask_steps rows rows' before now NoMemory (told_more _ _ rows rows' (subst (λ (d : List ℕ). Told rows rows' (λ r r'. RegisterServes r r' (record { reference = reference; bytes = bytes; day = d }) (before, now) (register_outcome result))) is served) (λ r r' one. unheard r r' asked (before, now) (register_outcome result) one)) cause.later cause.later tt,
   )
 
 -- ---- want of memory

@@ -4,13 +4,13 @@ use Rattle.std.specs.Fmt.{decimal}
 use Rattle.issue_core.specs.declared.rule.Rule.{Rule}
 use Rattle.ledger.specs.Ledger.{Outcome, Issued, Kept, Refused, Faulted, NoMemory}
 use Rattle.issue_core.specs.RuleNumbers.{number_of}
-use Rattle.issue_core.specs.Register.{Fault}
+use Rattle.issue_core.specs.Registering.Desk.{RegisterFault}
 use Rattle.eac_cli.specs.declared.event.Event.{Event}
 use Rattle.eac_cli.specs.declared.event.EventLine.{EventLine}
 use Rattle.eac_cli.specs.Turn.{Answer, Silent, Registered, Memory}
 
 -- what is told of the register's outcome for this reference
-abbrev pub outcome_text : List ℕ → Outcome (List ℕ) Rule Fault → List ℕ
+abbrev pub outcome_text : List ℕ → Outcome (List ℕ) Rule RegisterFault → List ℕ
 outcome_text reference (Issued day) = codes "issued " ++ reference ++ 32 ∷ day
 outcome_text reference (Kept day) = codes "kept " ++ reference ++ 32 ∷ day
 outcome_text reference (Refused rule) = codes "refused " ++ decimal (number_of rule)

@@ -4,7 +4,7 @@ use Rattle.std.specs.Prelude.{ℕ, List, [], Option, None}
 use Rattle.keeper.specs.declared.rows.Row.{Row}
 use Rattle.issue_core.specs.declared.rule.Rule.{Rule}
 use Rattle.ledger.specs.Ledger.{Delivery}
-use Rattle.issue_core.specs.Register.{Asked, Fault}
+use Rattle.issue_core.specs.Registering.Desk.{Asked, RegisterFault}
 
 pub record State : Type 0 where
   -- the day in force, counted from 2000-01-01
@@ -14,7 +14,7 @@ pub record State : Type 0 where
   -- the keeper's count of faults
   pub keeper : ℕ
   -- the deliveries to the plain register
-  pub register : List (Delivery Asked (List ℕ) Rule Fault)
+  pub register : List (Delivery Asked (List ℕ) Rule RegisterFault)
 
 -- Before the first event: no day, and nothing was delivered. The rows and the count are those of the keeper.
 abbrev pub first_state : List Row → ℕ → State

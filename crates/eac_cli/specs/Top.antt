@@ -9,7 +9,7 @@ use Rattle.eac_base.specs.Telling.{Told}
 use Rattle.keeper.specs.declared.rows.Row.{Row}
 use Rattle.issue_core.specs.declared.rule.Rule.{Rule}
 use Rattle.ledger.specs.Ledger.{Delivery, entries}
-use Rattle.issue_core.specs.Register.{Asked, Fault, Deliveries, register, RegisterStory, entries_of, rows_of_ledger}
+use Rattle.issue_core.specs.Registering.Desk.{Asked, RegisterFault, Deliveries, register, RegisterStory, entries_of, rows_of_ledger}
 use Rattle.policy_limits.specs.Setup.{SetupValue}
 use Rattle.eac_cli.specs.declared.event.Event.{Event}
 use Rattle.eac_cli.specs.declared.event.Event.TheVariants.{Day, Ask}
@@ -54,7 +54,7 @@ asks today (event ∷ events) = asks_of today event ++ asks (later_day today eve
 
 -- the cases of deliveries
 abbrev pub cases : Deliveries → List Asked
-cases deliveries = map (λ (d : Delivery Asked (List ℕ) Rule Fault). d.case_of) deliveries
+cases deliveries = map (λ (d : Delivery Asked (List ℕ) Rule RegisterFault). d.case_of) deliveries
 
 -- One state to which the history of these lines leads from the rows before. Its deliveries are what the `ask` lines
 -- ask, they are one story after the ledger of the rows before, and their ledger is what was added to the rows.

@@ -5,10 +5,10 @@ use Rattle.eac_base.specs.Causes.{Rose}
 use Rattle.eac_base.specs.Runs.{Runs}
 use Rattle.issue_core.specs.declared.rule.Rule.{Rule}
 use Rattle.issue_core.specs.declared.rule.Rule.TheVariants.{Full}
-use Rattle.issue_core.specs.declared.serving.RegisterAnswer.TheVariants.{Kept as AnswerKept, Refused as AnswerRefused}
+use Rattle.issue_core.specs.declared.registering.serving.RegisterAnswer.TheVariants.{Kept as AnswerKept, Refused as AnswerRefused}
 use Rattle.ledger.specs.Ledger.{Outcome, Issued, Kept, Refused, Faulted, NoMemory}
 use Rattle.ledger.specs.Story.{Decides}
-use Rattle.issue_core.specs.Register.{Asked, Fault, register, unsigned, delivery_of, entries_of, rows_left, IsAgain}
+use Rattle.issue_core.specs.Registering.Desk.{Asked, RegisterFault, register, unsigned, delivery_of, entries_of, rows_left, IsAgain}
 use Rattle.eac_cli.specs.declared.event.Event.{Event}
 use Rattle.eac_cli.specs.declared.event.Event.TheVariants.{Day, Ask}
 use Rattle.eac_cli.specs.State.{State}
@@ -16,11 +16,11 @@ use Rattle.eac_cli.specs.State.{State}
 -- What is answered to an event: nothing to a `day`, an outcome of the register to an `ask`, and want of memory to any.
 pub data Answer : Type 0 where
   Silent : Answer
-  Registered : (reference : List ℕ) → (outcome : Outcome (List ℕ) Rule Fault) → Answer
+  Registered : (reference : List ℕ) → (outcome : Outcome (List ℕ) Rule RegisterFault) → Answer
   Memory : Answer
 
 -- the answer that tells an outcome of the register
-abbrev pub told_as : List ℕ → Outcome (List ℕ) Rule Fault → Answer
+abbrev pub told_as : List ℕ → Outcome (List ℕ) Rule RegisterFault → Answer
 told_as reference (Issued day) = Registered reference (Issued day)
 told_as reference (Kept day) = Registered reference (Kept day)
 told_as reference (Refused rule) = Registered reference (Refused rule)
@@ -35,7 +35,7 @@ asked_on day reference bytes = record { reference = reference; bytes = bytes; da
 -- was added.
 pub record AskTurn (s : State) (reference bytes : List ℕ) (answer : Answer) (s' : State) : Type 0 where
   pub day : ℕ
-  pub outcome : Outcome (List ℕ) Rule Fault
+  pub outcome : Outcome (List ℕ) Rule RegisterFault
   pub left : Option (List ℕ)
   pub faults : ℕ
   pub today : s.day ≡ Some day
@@ -66,7 +66,7 @@ pub record Standing : Type 0 where
 
 -- How the keeper's count goes with an outcome: up where a fault of the keeper is told, and else not at all. Where
 -- memory was wanting it may have gone up before.
-abbrev pub Counts : (before now : ℕ) → Outcome (List ℕ) Rule Fault → Type 0
+abbrev pub Counts : (before now : ℕ) → Outcome (List ℕ) Rule RegisterFault → Type 0
 Counts before now (Issued given) = now ≡ before
 Counts before now (Kept given) = now ≡ before
 Counts before now (Refused rule) = now ≡ before
@@ -76,7 +76,7 @@ Counts before now NoMemory = before ≤ now
 -- The outcome may come: a day that is given is the one in force; what is kept or used is what some row of that
 -- reference says, as a keeper may have it, and which row this keeper gave isn't said; and a full table is the keeper's
 -- word.
-abbrev pub MayCome : Standing → (reference bytes : List ℕ) → Outcome (List ℕ) Rule Fault → Type 0
+abbrev pub MayCome : Standing → (reference bytes : List ℕ) → Outcome (List ℕ) Rule RegisterFault → Type 0
 MayCome s reference bytes (Issued given) = (day : ℕ) × (s.day ≡ Some day) × (given ≡ day_text day)
 MayCome s reference bytes (Kept given) = IsAgain reference bytes (AnswerKept given)
 MayCome s reference bytes (Refused rule) = IsAgain reference bytes (AnswerRefused rule) ⊎ (rule ≡ Full)
@@ -87,7 +87,7 @@ MayCome s reference bytes NoMemory = Unit {0}
 abbrev pub MayAnswer : Standing → Event → Answer → Standing → Type 0
 MayAnswer s (Day day) answer s' = (answer ≡ Silent) × (s' ≡ record { day = Some day; keeper = s.keeper })
 MayAnswer s (Ask reference bytes) answer s' =
-    (s'.day ≡ s.day) × (s.keeper ≤ s'.keeper) × (outcome : Outcome (List ℕ) Rule Fault)
+    (s'.day ≡ s.day) × (s.keeper ≤ s'.keeper) × (outcome : Outcome (List ℕ) Rule RegisterFault)
     × (answer ≡ told_as reference outcome) × Counts s.keeper s'.keeper outcome × MayCome s reference bytes outcome
 
 -- answers that may come to the events in their order, each between what stands about it

@@ -1,7 +1,7 @@
 // The texts of the journal, each appended to the line that it stands in.
 ghost use Rattle.std.specs.Prelude.{◌≡◌, ◌∷◌, ◌++◌, codes, length, take, OnOk, OnErr};
 ghost use Rattle.std.specs.Fmt.{decimal};
-ghost use Rattle.issue_core.specs.Register.{outcome_of};
+ghost use Rattle.issue_core.specs.Registering.Desk.{register_outcome};
 ghost use Rattle.eac_cli.specs.Journal.{outcome_text, line_head};
 ghost use Rattle.eac_cli.specs.Turn.{told_as, IsEnded};
 
@@ -60,8 +60,8 @@ fn push_answer(
     reference: &Reference,
     answer: &Result<RegisterAnswer, IssueFault>,
 ) -> Result<(), NoMemory>
-    ensures text { OnOk result (out.new ≡ out.old ++ outcome_text reference.now (outcome_of answer.now)) }
-    ensures ended { OnOk result (IsEnded (told_as reference.now (outcome_of answer.now))) }
+    ensures text { OnOk result (out.new ≡ out.old ++ outcome_text reference.now (register_outcome answer.now)) }
+    ensures ended { OnOk result (IsEnded (told_as reference.now (register_outcome answer.now))) }
     ensures front { OnErr result (take (length out.old) out.new ≡ out.old) }
 {
     match answer {
@@ -83,8 +83,8 @@ pub fn push_outcome(
     reference: &Reference,
     answer: &Result<RegisterAnswer, IssueFault>,
 ) -> Result<(), NoMemory>
-    ensures text { OnOk result (out.new ≡ out.old ++ outcome_text reference.now (outcome_of answer.now)) }
-    ensures ended { OnOk result (IsEnded (told_as reference.now (outcome_of answer.now))) }
+    ensures text { OnOk result (out.new ≡ out.old ++ outcome_text reference.now (register_outcome answer.now)) }
+    ensures ended { OnOk result (IsEnded (told_as reference.now (register_outcome answer.now))) }
     ensures kept { OnErr result (out.new ≡ out.old) }
 {
     let before = out.len();

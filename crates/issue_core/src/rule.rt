@@ -3,6 +3,7 @@ ghost use Rattle.std.specs.Prelude.{◌≡◌};
 ghost use Rattle.issue_core.specs.RuleNumbers.{number_of};
 
 use cvc_grammar::CvcRefusal;
+use std::fmt;
 
 /// The rules of issuing, in the order in which they are tested.
 #[derive(Clone, Copy, Debug, PartialEq, Eq)]
@@ -59,5 +60,26 @@ impl Rule {
             Rule::Inner => 13,
             Rule::Outer => 14,
         }
+    }
+}
+
+impl fmt::Display for Rule {
+    fn fmt<W: fmt::Write>(&self, f: &mut fmt::Formatter<W>) -> fmt::Result {
+        f.write_str(match self {
+            Rule::Syntax(refusal) => return write!(f, "the bytes are no request: {refusal}"),
+            Rule::Used => "the request number stands in the ledger with another request",
+            Rule::Holder => "the holder isn't registered here, or is suspended",
+            Rule::Authority => "no certificate of the desk's own is there to sign under",
+            Rule::AuthorityExpired => "the certificate to sign under has expired",
+            Rule::Domain => "the algorithm or the domain isn't that of the key to sign with",
+            Rule::OuterMissing => "the outer signature is missing",
+            Rule::OuterUnknown => "no certificate is known under the outer signature's reference",
+            Rule::OuterExpired => "the certificate that the outer signature names has expired",
+            Rule::LiveLimit => "the holder has as many live certificates as it may have",
+            Rule::Short => "the certificate would be valid for too few days",
+            Rule::Full => "the ledger is full",
+            Rule::Inner => "the inner signature isn't good",
+            Rule::Outer => "the outer signature isn't good",
+        })
     }
 }

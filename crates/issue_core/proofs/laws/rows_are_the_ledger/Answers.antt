@@ -1,5 +1,0 @@
-use Rattle.issue_core.proofs.RowLaws.{added_rows}
-use Rattle.issue_core.proofs.laws.rows_are_the_ledger.Goals as goal
-
-pub returns : goal.returns
-returns c = added_rows

@@ -1,0 +1,3 @@
+-- The plain register.
+pub mod Desk
+pub mod Steps
