@@ -127,7 +127,13 @@ fn push_place(alloc: Global, out: &mut Octets, refusal: CvcRefusal) -> Result<()
             out.push_all(b" at ")?;
             push_number(alloc, out, offset)
         }
-        _ => Ok(()),
+        CvcRefusal::TooLong
+        | CvcRefusal::Profile
+        | CvcRefusal::Key
+        | CvcRefusal::Reference(_)
+        | CvcRefusal::Template(_)
+        | CvcRefusal::Date(_)
+        | CvcRefusal::Trailing => Ok(()),
     }
 }
 
