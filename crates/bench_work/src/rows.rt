@@ -1,4 +1,4 @@
-// Rows of the plain register in memory: added at one desk, found one by one, and read by holder.
+// Rows of the plain register: added at one desk of a keeper, found one by one, and read by holder.
 ghost use Rattle.std.specs.Prelude.{◌<◌, IfSome};
 ghost use Rattle.keeper.specs.Rows.{IsStorable};
 
@@ -90,14 +90,14 @@ fn answer(done: Result<(), KeepRefusal>) -> &'static str {
     }
 }
 
-fn add(alloc: Global, keeper: &mut MemoryKeeper, number: u32) -> &'static str {
+fn add<K: Keeper>(alloc: Global, keeper: &mut K, number: u32) -> &'static str {
     match row(alloc, number) {
         Some(row) => answer(keeper.add(alloc, &row)),
         None => "no memory",
     }
 }
 
-fn added(alloc: Global, keeper: &mut MemoryKeeper, number: u32) -> u64 {
+fn added<K: Keeper>(alloc: Global, keeper: &mut K, number: u32) -> u64 {
     let mut added: u64 = 0;
     for n in 0..number {
         if add(alloc, keeper, n) == "ok" {
@@ -107,7 +107,7 @@ fn added(alloc: Global, keeper: &mut MemoryKeeper, number: u32) -> u64 {
     added
 }
 
-fn found(alloc: Global, keeper: &mut MemoryKeeper, number: u32) -> Option<u64> {
+fn found<K: Keeper>(alloc: Global, keeper: &mut K, number: u32) -> Option<u64> {
     let mut found: u64 = 0;
     for n in 0..number {
         let row = keeper.find(alloc, Table::Register, 0, &reference(n)?);
@@ -127,6 +127,13 @@ fn of_holders(alloc: Global, keeper: &mut MemoryKeeper) -> Option<u64> {
         read = read.wrapping_add(rows.len() as u64);
     }
     Some(read)
+}
+
+/// Adds so many rows to a keeper and finds each of them: how many calls did.
+pub fn added_and_found<K: Keeper>(alloc: Global, keeper: &mut K, number: u32) -> Option<u64> {
+    let added = added(alloc, keeper, number);
+    let found = found(alloc, keeper, number)?;
+    Some(added.wrapping_add(found))
 }
 
 /// Adds so many rows, finds each, and reads those of each holder; then adds one more, and the first again.
