@@ -1,0 +1,13 @@
+pub mod Causes
+pub mod Readings
+pub mod Takings
+pub mod Trustings
+pub mod Sizes
+pub mod TakingsCa
+pub mod Receivings
+pub mod Bodies
+pub mod Signings
+pub mod Composings
+pub mod Requestings
+pub mod Lawfuls
+pub mod Choosings

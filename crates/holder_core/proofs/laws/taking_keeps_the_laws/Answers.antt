@@ -1,0 +1,5 @@
+use Rattle.holder_core.proofs.Lawfuls.{take_keeps}
+use Rattle.holder_core.proofs.laws.taking_keeps_the_laws.Goals as goal
+
+pub returns : goal.returns
+returns c = take_keeps

@@ -1,0 +1,17 @@
+pub mod Readings
+pub mod Faults
+pub mod WritesOnce
+pub mod OwnRows
+pub mod Adding
+pub mod Taking
+pub mod Trusting
+pub mod TakingCa
+pub mod Receiving
+pub mod RuleNumbers
+pub mod Signers
+pub mod Numbers
+pub mod Bodies
+pub mod Signing
+pub mod Requesting
+pub mod Lawful
+pub mod LawfulCalls
