@@ -2,6 +2,7 @@ pub mod Holding
 pub mod Kept
 pub mod Looking
 pub mod ReadingOrder
+pub mod Shown
 pub mod Sound
 pub mod StoredRow
 pub mod ToldRows

@@ -6,9 +6,8 @@ ghost use Rattle.keeper.specs.Keeping.{Adds, AddAsked, Settles, SettleAsked, Fin
 ghost use Rattle.sqlite.specs.Files.{file_state};
 ghost use Rattle.sqlite.specs.Held.{state};
 ghost use Rattle.sqlite.specs.State.{HasCleanDisk};
-ghost use Rattle.sqlite.specs.Steps.{over_memory};
 ghost use Rattle.keeper_sqlite.specs.Kept.{no_schema};
-ghost use Rattle.keeper_sqlite.specs.Sound.{KeptSound, KeptSound-prop, told_rows, told_unique};
+ghost use Rattle.keeper_sqlite.specs.Sound.{KeptSound, KeptSound-prop, told_unique};
 
 use crate::changing;
 use crate::reading::{self, refusal_of};
@@ -31,10 +30,12 @@ pub struct SqliteKeeper<S: Alter + Drop> {
 }
 
 impl SqliteKeeper<MemStore> {
+    ghost use Rattle.keeper_sqlite.specs.Shown as shown;
+
     /// No rows, in memory. They are told from the start.
     pub fn in_memory(alloc: Global) -> Result<SqliteKeeper<MemStore>, KeepRefusal>
-        ensures told { IfOk result (λ k. told_rows k.known (state over_memory k.conn) ≡ Some []) }
-        ensures faults { IfOk result (λ k. k.faults ≡ 0) }
+        ensures told { IfOk result (λ k. shown.rows k ≡ Some []) }
+        ensures faults { IfOk result (λ k. shown.faults k ≡ 0) }
         ensures refused { IfErr result ReadingRefused }
     {
         let mut conn = match Connection::open_in_memory(alloc) {
@@ -69,13 +70,15 @@ fn make(rt: &HostRuntime, path: &str) -> Result<Connection<FileStore<File>>, Kee
 }
 
 impl SqliteKeeper<FileStore<File>> {
+    ghost use Rattle.keeper_sqlite.specs.Shown as shown;
+
     /// A database in a new file at the path, with the table. It is `Failed` where something lies there.
     pub fn create_at(
         rt: &HostRuntime,
         path: &str,
     ) -> Result<SqliteKeeper<FileStore<File>>, KeepRefusal>
-        ensures told { IfOk result (λ k. IfSome (told_rows k.known (file_state k.conn)) (λ rows. rows ≡ [])) }
-        ensures faults { IfOk result (λ k. k.faults ≡ 0) }
+        ensures told { IfOk result (λ k. IfSome (shown.rows k) (λ rows. rows ≡ [])) }
+        ensures faults { IfOk result (λ k. shown.faults k ≡ 0) }
         ensures refused { IfErr result ReadingRefused }
     {
         let mut conn = make(rt, path)?;
@@ -95,7 +98,7 @@ impl SqliteKeeper<FileStore<File>> {
         rt: &HostRuntime,
         path: &str,
     ) -> Result<SqliteKeeper<FileStore<File>>, KeepRefusal>
-        ensures faults { IfOk result (λ k. k.faults ≡ 0) }
+        ensures faults { IfOk result (λ k. shown.faults k ≡ 0) }
         ensures refused { IfErr result ReadingRefused }
     {
         if !matches!(fs::exists(rt, path), Ok(true)) {
@@ -122,9 +125,11 @@ fn note<T>(faults: &mut u64, answer: &Result<T, KeepRefusal>)
 }
 
 impl<S: Alter + Drop> Keeper for SqliteKeeper<S> {
-    ghost rows = { λ k. told_rows k.known (state S.Store k.conn) };
+    ghost use Rattle.keeper_sqlite.specs.Shown as shown;
 
-    ghost faults = { λ k. k.faults };
+    ghost rows = { shown.rows };
+
+    ghost faults = { shown.faults };
 
     ghost unique = { λ k. told_unique _ _ };
 

@@ -21,7 +21,7 @@ fn reference(rt: &impl Abort) -> Reference {
     read_reference(b"DEDVBUND00001").expect(rt, "the reference is legal")
 }
 
-fn registered(rt: &impl Abort, alloc: Global, request: &[u8], day: [u8; 6]) -> Row
+pub(super) fn registered(rt: &impl Abort, alloc: Global, request: &[u8], day: [u8; 6]) -> Row
     requires { length request.now ≤ 65535 }
     ensures { IsStorable result }
 {
@@ -45,7 +45,7 @@ fn key(rt: &impl Abort, alloc: Global) -> Key
 }
 
 // An own row of party 2 that waits for its certificate.
-fn waiting(rt: &impl Abort, alloc: Global) -> Row
+pub(super) fn waiting(rt: &impl Abort, alloc: Global) -> Row
     ensures { IsStorable result }
 {
     let key = key(rt, alloc);

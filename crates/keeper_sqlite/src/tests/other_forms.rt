@@ -50,40 +50,31 @@ fn is_found(rt: &impl Abort, alloc: Global, keeper: &mut SqliteKeeper<MemStore>)
     is_found
 }
 
-#[test]
-fn a_row_of_the_form_is_given(rt: HostRuntime) {
-    let alloc = rt.alloc();
-    let mut keeper = holding(&rt, alloc, 0, b"DEDVBUND00001", &REGISTERED);
-    assert!(rt; is_found(&rt, alloc, &mut keeper));
-    assert!(rt; listed(alloc, &mut keeper) == Some(1));
-    assert!(rt; keeper.faults() == 0);
+// Whether the row is found, how many rows the list gives, and how many faults were counted in both.
+fn answers(
+    rt: &impl Abort,
+    alloc: Global,
+    kind: u32,
+    reference: &[u8],
+    body: &[u8],
+) -> (bool, Option<usize>, u64) {
+    let mut keeper = holding(rt, alloc, kind, reference, body);
+    let is_found = is_found(rt, alloc, &mut keeper);
+    let listed = listed(alloc, &mut keeper);
+    let faults = keeper.faults();
     drop(keeper);
+    (is_found, listed, faults)
 }
 
 #[test]
-fn a_changed_body_is_a_fault(rt: HostRuntime) {
+fn what_is_not_of_the_form_is_a_counted_fault(rt: HostRuntime) {
     let alloc = rt.alloc();
-    let mut keeper = holding(&rt, alloc, 0, b"DEDVBUND00001", &CHANGED);
-    assert!(rt; !is_found(&rt, alloc, &mut keeper));
-    assert!(rt; listed(alloc, &mut keeper).is_none());
-    assert!(rt; keeper.faults() == 2);
-    drop(keeper);
-}
-
-#[test]
-fn a_name_that_is_no_reference_is_a_fault(rt: HostRuntime) {
-    let alloc = rt.alloc();
-    let mut keeper = holding(&rt, alloc, 0, b"DEDVBUND0000a", &REGISTERED);
-    assert!(rt; listed(alloc, &mut keeper).is_none());
-    assert!(rt; keeper.faults() == 1);
-    drop(keeper);
-}
-
-#[test]
-fn a_row_of_no_table_is_not_given(rt: HostRuntime) {
-    let alloc = rt.alloc();
-    let mut keeper = holding(&rt, alloc, 4, b"DEDVBUND00001", &REGISTERED);
-    assert!(rt; listed(alloc, &mut keeper) == Some(0));
-    assert!(rt; keeper.faults() == 0);
-    drop(keeper);
+    let whole = answers(&rt, alloc, 0, b"DEDVBUND00001", &REGISTERED);
+    assert!(rt; matches!(whole, (true, Some(1), 0)));
+    let body_changed = answers(&rt, alloc, 0, b"DEDVBUND00001", &CHANGED);
+    assert!(rt; matches!(body_changed, (false, None, 2)));
+    let no_reference = answers(&rt, alloc, 0, b"DEDVBUND0000a", &REGISTERED);
+    assert!(rt; matches!(no_reference, (false, None, 1)));
+    let of_no_table = answers(&rt, alloc, 4, b"DEDVBUND00001", &REGISTERED);
+    assert!(rt; matches!(of_no_table, (false, Some(0), 0)));
 }
