@@ -1,5 +1,5 @@
 -- Return codes (after BSI TR-03129; their texts are this project's own).
-use Rattle.std.specs.Prelude.{ℕ, List, [], ◌∷◌, Bool, true, false, ◌||◌, ◌==◌, Option, Some, None, if◌then◌else◌, codes}
+use Rattle.std.specs.Prelude.{ℕ, List, [], ◌∷◌, Bool, true, false, Option, Some, None, if◌then◌else◌, codes}
 use Rattle.std.specs.Str.{bytes_eq}
 use Rattle.eac_messages.specs.declared.code.Code.{Code}
 use Rattle.eac_messages.specs.declared.code.Code.TheVariants as kinds
@@ -39,11 +39,3 @@ carries_certificates kinds.Domain = false
 carries_certificates kinds.Inner = false
 carries_certificates kinds.Outer = false
 carries_certificates kinds.Internal = false
-
--- The code of a request that is refused by a rule of issuing.
-abbrev pub code_of_rule : ℕ → Code
-code_of_rule rule = if rule == 1 then kinds.Syntax
-    else (if (rule == 5) || (rule == 9) then kinds.Expired
-    else (if rule == 6 then kinds.Domain
-    else (if rule == 13 then kinds.Inner
-    else (if rule == 14 then kinds.Outer else kinds.NotAccepted))))

@@ -1,6 +1,6 @@
 // Return codes.
 ghost use Rattle.std.specs.Prelude.{◌≡◌};
-ghost use Rattle.eac_messages.specs.Code.{code_text, code_named, code_of_rule, carries_certificates};
+ghost use Rattle.eac_messages.specs.Code.{code_text, code_named, carries_certificates};
 
 /// A return code.
 #[derive(Clone, Copy, Debug, PartialEq, Eq)]
@@ -40,20 +40,6 @@ impl Code {
             Code::Inner => "failure_inner_signature",
             Code::Outer => "failure_outer_signature",
             Code::Internal => "failure_internal_error",
-        }
-    }
-
-    /// The code of a request that is refused by this rule of issuing.
-    pub fn of_rule(rule: u8) -> Code
-        ensures { result ≡ code_of_rule rule }
-    {
-        match rule {
-            1 => Code::Syntax,
-            5 | 9 => Code::Expired,
-            6 => Code::Domain,
-            13 => Code::Inner,
-            14 => Code::Outer,
-            _ => Code::NotAccepted,
         }
     }
 

@@ -354,7 +354,7 @@ fn replies_are_written_and_read(rt: HostRuntime) -> Result<(), Fail> {
     let alloc = rt.alloc();
     let refused = Reply {
         id: Octets::new(alloc),
-        code: Code::of_rule(1),
+        code: Code::Syntax,
         rule: Some(1),
         certificates: ByteLists::new(alloc),
     };
