@@ -1,0 +1,9 @@
+pub mod Messages
+pub mod Causes
+pub mod Makings
+pub mod Enterings
+pub mod Calls
+pub mod Foundings
+pub mod Linkings
+pub mod Numberings
+pub mod Lawfuls

@@ -1,0 +1,9 @@
+pub mod Terms
+pub mod OwnCertificate
+pub mod Signing
+pub mod Asking
+pub mod Entering
+pub mod Founding
+pub mod Linking
+pub mod Lawful
+pub mod Answering
