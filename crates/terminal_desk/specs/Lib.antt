@@ -1,0 +1,5 @@
+pub mod Chain
+pub mod Search
+pub mod Walks
+pub mod Laws
+pub mod Answering
