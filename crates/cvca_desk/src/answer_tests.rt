@@ -1,19 +1,23 @@
-// What no clause says: that the calls find memory, and the worked request.
+// What no clause says: that the calls find memory, and the bytes of the worked example from the founding to the
+// certificate that a verifier takes.
 //
 // Owned values are let go by a call of `drop`: at the end of a scope each list of bytes in them would be proved apart.
-ghost use Rattle.std.specs.Prelude.{◌≡◌};
-ghost use Rattle.keeper.specs.Rows.{IsStorable, IsStorableKey, IsStorableSettled};
+ghost use Rattle.std.specs.Prelude.{◌≡◌, IsSome, is_some};
+ghost use Rattle.keeper.specs.Rows.{IsStorable};
+ghost use Rattle.holder_core.specs.Trusting.{carried};
 
-use crate::{answer, list};
-use chat_rights::{Kind, Rights, Role, Template};
+use crate::terms::terms_of;
+use crate::tests::FOUNDING;
+use crate::{Founded, answer, found, list};
 use cv_dates::{Day, day_from_text};
 use desk_core::{Event1, Served};
 use eac_base::{ByteLists, FailPlan, NoMemory, Octets, is_same};
 use eac_messages::{Code, Message};
+use holder_core::{Made, Taken, make_request, take_certificate, trust_ca};
 use holder_reference::{Reference, read_reference};
-use keeper::{Keeper, KeeperPlan, MemoryKeeper, OwnPart, Part, Row, Settled};
+use keeper::{Keeper, KeeperPlan, MemoryKeeper, Part, Row, Table};
 use policy_limits::read_setup;
-use signature_provider::{Algorithm, FormName, Key, SignatureProvider, TableProvider, plain_form};
+use signature_provider::TableProvider;
 use std::alloc::Global;
 use std::process::Abort;
 
@@ -70,80 +74,72 @@ fn reference(rt: &impl Abort, text: &[u8]) -> Reference {
     read_reference(text).expect(rt, "the reference is legal")
 }
 
-fn own_key(rt: &impl Abort, alloc: Global) -> Key
-    ensures { IsStorableKey result }
+// Whether the row has a founding certificate that can be carried by hand.
+fn is_founded(row: &Row) -> bool
+    ensures { result ≡ is_some (carried row.now.part) }
 {
-    let domain = [0x81, 1, 1, 0x82, 1, 2, 0x83, 1, 3, 0x84, 1, 4, 0x85, 1, 5];
-    Key {
-        algorithm: Algorithm { arc: 2, last: 3 },
-        domain: octets(rt, alloc, &domain),
-        point: octets(rt, alloc, &[0, 0, 0, 0, 0, 0, 0, 1]),
-        cofactor: octets(rt, alloc, &[0x87, 1, 1]),
+    match &row.part {
+        Part::Own(own) => own.settled.is_some(),
+        _ => false,
     }
 }
 
-fn settled(rt: &impl Abort, alloc: Global) -> Settled
-    ensures { IsStorableSettled result }
+// The authority, party 0, is founded on 2024-01-01.
+fn founded(
+    rt: &impl Abort,
+    alloc: Global,
+    keeper: &mut MemoryKeeper,
+    provider: &mut TableProvider,
+) -> Row
+    ensures storable { IsStorable result }
+    ensures carried { IsSome (carried result.part) }
 {
-    Settled {
-        certificate: octets(rt, alloc, b"\x01"),
-        issuer: reference(rt, b"DECVCA00001"),
-        template: Template {
-            kind: Kind::Inspection,
-            role: Role::Cvca,
-            rights: Rights::from_bits(3).expect(rt, "there are such rights"),
-        },
-        from: day(rt, b"240101"),
-        until: day(rt, b"270101"),
+    let setup = read_setup(alloc, SETUP).expect(rt, "the setup is legal");
+    assert!(rt; terms_of(&setup, 0).is_some());
+    let answer = found(alloc, &setup, 0, day(rt, b"240101"), keeper, provider);
+    drop(setup);
+    let number = reference(rt, b"DECVCA00001");
+    assert!(rt; answer == Ok(Founded::New(number)));
+    let row = keeper
+        .find(alloc, Table::Own, 0, &number)
+        .expect(rt, "no call fails")
+        .expect(rt, "the row was added");
+    assert!(rt; is_founded(&row));
+    row
+}
+
+// The verifier, party 1, asks the authority for a certificate.
+fn requested(
+    rt: &impl Abort,
+    alloc: Global,
+    keeper: &mut MemoryKeeper,
+    provider: &mut TableProvider,
+) -> Octets {
+    let holder = reference(rt, b"DEDVBUND00001").holder();
+    let authority = reference(rt, b"DECVCA00001").holder();
+    let made = make_request(
+        alloc, 1, &holder, &authority, &authority, None, keeper, provider,
+    );
+    match made {
+        Ok(Made::Request { bytes, .. }) => bytes,
+        other => {
+            drop(other);
+            Octets::new(alloc)
+        }
     }
 }
 
-fn own_row(rt: &impl Abort, alloc: Global) -> Row
-    ensures { IsStorable result }
-{
-    let reference = reference(rt, b"DECVCA00001");
-    Row {
-        desk: 0,
-        reference,
-        part: Part::Own(OwnPart {
-            authority: reference.holder(),
-            request: Octets::new(alloc),
-            key: own_key(rt, alloc),
-            settled: Some(settled(rt, alloc)),
-        }),
-    }
-}
-
-fn founded(rt: &impl Abort, alloc: Global) -> MemoryKeeper {
+// An authority that is founded, and a verifier that trusts it and made its request.
+fn begun(rt: &impl Abort, alloc: Global) -> (MemoryKeeper, TableProvider) {
     let mut keeper = MemoryKeeper::new(alloc, KeeperPlan::new(alloc));
-    let row = own_row(rt, alloc);
-    keeper.add(alloc, &row).expect(rt, "the row is new");
-    drop(row);
-    keeper
-}
-
-fn new_key(rt: &impl Abort, alloc: Global, provider: &mut TableProvider) -> Key {
-    let form = plain_form(alloc, FormName::Ec).expect(rt, "memory is there");
-    let key = provider.new_key(alloc, &form).expect(rt, "no call fails");
-    drop(form);
-    key
-}
-
-fn sign(rt: &impl Abort, alloc: Global, provider: &mut TableProvider, key: Key, message: &[u8]) {
-    let signature = provider.sign(alloc, &key, message);
-    drop(key);
-    drop(signature.expect(rt, "no call fails"));
-}
-
-// Keys 1 and 2 are made; signature 2 is that of the request.
-fn provider(rt: &impl Abort, alloc: Global) -> TableProvider {
     let mut provider = TableProvider::new(alloc, FailPlan::new(alloc));
-    let authority = new_key(rt, alloc, &mut provider);
-    let verifier = new_key(rt, alloc, &mut provider);
-    sign(rt, alloc, &mut provider, authority, b"");
-    let whole = REQUEST.as_slice();
-    sign(rt, alloc, &mut provider, verifier, &whole[4..83]);
-    provider
+    let row = founded(rt, alloc, &mut keeper, &mut provider);
+    drop(trust_ca(alloc, 1, &row, &mut keeper));
+    drop(row);
+    let request = requested(rt, alloc, &mut keeper, &mut provider);
+    assert!(rt; is_same(request.as_slice(), REQUEST.as_slice()));
+    drop(request);
+    (keeper, provider)
 }
 
 fn ask(
@@ -180,14 +176,17 @@ fn gives(served: Served, certificate: &[u8]) -> bool {
 }
 
 #[test]
-fn a_request_is_issued_and_its_repeat_is_kept(rt: HostRuntime) {
+fn a_request_is_issued_and_taken_and_its_repeat_is_kept(rt: HostRuntime) {
     let alloc = rt.alloc();
-    let (mut keeper, mut provider) = (founded(&rt, alloc), provider(&rt, alloc));
+    let (mut keeper, mut provider) = begun(&rt, alloc);
     let served = ask(&rt, alloc, request(&rt, alloc), &mut keeper, &mut provider);
     let served = served.expect(&rt, "memory is there");
     let number = reference(&rt, b"DEDVBUND00001");
     assert!(rt; matches!(&served.event, Event1::Issued(it) if *it == number));
     assert!(rt; gives(served, CERTIFICATE.as_slice()));
+    let taken = take_certificate(alloc, 1, CERTIFICATE, &mut keeper, &mut provider);
+    assert!(rt; matches!(&taken, Ok(Taken::Stored(it)) if *it == number));
+    drop(taken);
     let served = ask(&rt, alloc, request(&rt, alloc), &mut keeper, &mut provider);
     let served = served.expect(&rt, "memory is there");
     assert!(rt; matches!(&served.event, Event1::Kept(it) if *it == number));
@@ -199,14 +198,14 @@ fn a_request_is_issued_and_its_repeat_is_kept(rt: HostRuntime) {
 #[test]
 fn its_own_certificates_are_listed_and_others_declined(rt: HostRuntime) {
     let alloc = rt.alloc();
-    let (mut keeper, mut provider) = (founded(&rt, alloc), provider(&rt, alloc));
+    let (mut keeper, mut provider) = begun(&rt, alloc);
     let certificates = list(alloc, 0, &mut keeper).expect(&rt, "no call fails");
     assert!(rt; certificates.len() == 1);
     drop(certificates);
     let id = octets(&rt, alloc, b"7");
     let message = Message::GetCaCertificates { id };
     let served = ask(&rt, alloc, message, &mut keeper, &mut provider);
-    assert!(rt; gives(served.expect(&rt, "memory is there"), b"\x01"));
+    assert!(rt; gives(served.expect(&rt, "memory is there"), FOUNDING.as_slice()));
     let (id, certificates) = (octets(&rt, alloc, b"7"), ByteLists::new(alloc));
     let message = Message::SendCertificates { id, certificates };
     let served = ask(&rt, alloc, message, &mut keeper, &mut provider);

@@ -1,6 +1,8 @@
 // What no clause says: that the calls find memory, the bytes of the worked example, and a case for each refusal.
 //
 // Owned values are let go by a call of `drop`: at the end of a scope each list of bytes in them would be proved apart.
+ghost use Rattle.keeper.specs.Rows.{IsStorable};
+
 use crate::terms::terms_of;
 use crate::{Founded, Linked, found, new_link};
 use cv_dates::{Day, day_from_text};
@@ -16,7 +18,7 @@ use std::process::Abort;
 
 // The first certificate of an authority on 2024-01-01, under the first key and with the first signature. Signatures are
 // numbers.
-const FOUNDING: &[u8; 183] = b"\
+pub(crate) const FOUNDING: &[u8; 183] = b"\
     \x7f\x21\x81\xb3\
     \x7f\x4e\x6d\
     \x5f\x29\x01\x00\
@@ -162,6 +164,43 @@ fn each_refusal_of_a_link_comes(rt: HostRuntime) {
         let answer = link_on(&rt, alloc, today, &mut keeper, &mut provider);
         assert!(rt; answer == Ok(due));
     }
+    drop(keeper);
+    drop(provider);
+}
+
+// A keeper's own rows of the authority until this one, and this one.
+fn linked_until(
+    rt: &impl Abort,
+    alloc: Global,
+    last: &Reference,
+    provider: &mut TableProvider,
+) -> Row
+    ensures { IsStorable result }
+{
+    let mut keeper = no_rows(alloc);
+    drop(found_on(rt, alloc, b"240101", &mut keeper, provider));
+    drop(link_on(rt, alloc, b"240102", &mut keeper, provider));
+    drop(link_on(rt, alloc, b"240103", &mut keeper, provider));
+    let row = keeper
+        .find(alloc, Table::Own, 0, last)
+        .expect(rt, "no call fails")
+        .expect(rt, "the row was added");
+    drop(keeper);
+    row
+}
+
+// Two own rows are kept, and the second has the number that comes next.
+#[test]
+fn a_link_whose_number_is_used_is_exhausted(rt: HostRuntime) {
+    let alloc = rt.alloc();
+    let (mut keeper, mut provider) = (no_rows(alloc), no_keys(alloc));
+    let third = linked_until(&rt, alloc, &reference(&rt, b"DECVCA00003"), &mut provider);
+    let first = found_on(&rt, alloc, b"240101", &mut keeper, &mut provider);
+    assert!(rt; first.is_ok());
+    keeper.add(alloc, &third).expect(&rt, "the row is new");
+    drop(third);
+    let answer = link_on(&rt, alloc, b"240104", &mut keeper, &mut provider);
+    assert!(rt; answer == Ok(Linked::Exhausted));
     drop(keeper);
     drop(provider);
 }

@@ -7,6 +7,9 @@ ghost use Rattle.keeper.specs.Rows.{IsStorable, IsStorableKey, IsStorableSettled
 ghost use Rattle.holder_core.specs.Signers.{own_signer};
 ghost use Rattle.holder_core.specs.Trusting.{carried};
 
+mod full_keeper;
+
+use self::full_keeper::FullKeeper;
 use crate::{
     CaRule, CertList, HolderFault, Item, Made, TakeRule, Taken, TakenCa, make_request, numbered,
     receive, take_ca, take_certificate, trust_ca,
@@ -101,13 +104,13 @@ fn founding(rt: &impl Abort, alloc: Global) -> Settled
     }
 }
 
-// The authority's own row with the key of this number, as it is carried by hand.
-fn carried_row(rt: &impl Abort, alloc: Global, number: u8) -> Row
+// An authority's own row of this reference with the key of this number, as it is carried by hand.
+fn carried_as(rt: &impl Abort, alloc: Global, text: &[u8], number: u8) -> Row
     ensures storable { IsStorable result }
     ensures carried { IsSome (carried result.part) }
     ensures signs { IsSome (own_signer result) }
 {
-    let reference = reference(rt, b"DECVCA00001");
+    let reference = reference(rt, text);
     Row {
         desk: 0,
         reference,
@@ -118,6 +121,15 @@ fn carried_row(rt: &impl Abort, alloc: Global, number: u8) -> Row
             settled: Some(founding(rt, alloc)),
         }),
     }
+}
+
+// That of the authority whose requests and certificates these are.
+fn carried_row(rt: &impl Abort, alloc: Global, number: u8) -> Row
+    ensures storable { IsStorable result }
+    ensures carried { IsSome (carried result.part) }
+    ensures signs { IsSome (own_signer result) }
+{
+    carried_as(rt, alloc, b"DECVCA00001", number)
 }
 
 // The verifier's own row of this reference, which waits for a certificate of the key of this number.
@@ -346,6 +358,23 @@ fn another_certificate_of_an_authority_differs_from_the_one_that_is_kept(rt: Hos
         matches!(&answer, Ok(TakenCa::Refused(CaRule::Differs(kept))) if kept.as_slice() == CERTIFICATE.as_slice())
     );
     drop(answer);
+    drop(keeper);
+    drop(provider);
+}
+
+#[test]
+fn a_full_table_takes_no_further_authority(rt: HostRuntime) {
+    let alloc = rt.alloc();
+    let mut keeper = FullKeeper::new(rows(&rt, alloc, true, None));
+    let mut provider = provider(&rt, alloc, 1);
+    let taken = take_ca(alloc, 1, CERTIFICATE, &mut keeper, &mut provider);
+    assert!(rt; matches!(&taken, Ok(TakenCa::Refused(CaRule::Full))));
+    drop(taken);
+    let row = carried_as(&rt, alloc, b"SECVCA00001", 1);
+    let trusted = trust_ca(alloc, 1, &row, &mut keeper);
+    assert!(rt; matches!(&trusted, Ok(TakenCa::Refused(CaRule::Full))));
+    drop(trusted);
+    drop(row);
     drop(keeper);
     drop(provider);
 }
