@@ -1,0 +1,52 @@
+// An authority makes its first certificate.
+ghost use Rattle.std.specs.Prelude.{◌≡◌, [], IsSome};
+ghost use Rattle.eac_net.specs.Acting.{AuthorityFits};
+ghost use Rattle.eac_net.specs.Answers.{Tells, answer_by};
+ghost use Rattle.eac_net.specs.Objects.{outside};
+ghost use Rattle.eac_net.specs.Packets.{AreBetween};
+ghost use Rattle.eac_net.specs.Steps.{HasStepped};
+ghost use Rattle.eac_net.specs.declared.answer.Answer.TheVariants as answers;
+
+use crate::answer::{Answer, Happened};
+use crate::concluding::{conclude, failed, told};
+use crate::event::Event;
+use crate::world::World;
+use cvca_desk::Founded;
+use eac_base::{NoMemory, Octets};
+use holder_core::HolderFault;
+use keeper::Keeper;
+use policy_limits::Setup;
+use signature_provider::SignatureProvider;
+use std::alloc::Global;
+
+fn founded(founded: Result<Founded, HolderFault>) -> Result<Happened, NoMemory>
+    ensures { Tells result (answer_by answers.Founded founded) [] }
+{
+    match founded {
+        Ok(founded) => Ok(told(Answer::Founded(founded))),
+        Err(fault) => failed(fault),
+    }
+}
+
+/// The authority of this number is founded on the day in force.
+pub fn found<B: Keeper, P: SignatureProvider>(
+    alloc: Global,
+    setup: &Setup,
+    world: &mut World,
+    authority: u32,
+    keeper: &mut B,
+    provider: &mut P,
+    line: &mut Octets,
+) -> Result<(), NoMemory>
+    requires day { IsSome world.old.day }
+    requires authority { AuthorityFits setup.now authority }
+    requires parties { AreBetween setup.now world.old.packets }
+    ensures steps { HasStepped setup.now (Event.Found authority) result (world.old, line.old) (world.new, line.new)
+        (outside B.Keeper P.SignatureProvider keeper.old provider.old)
+        (outside B.Keeper P.SignatureProvider keeper.new provider.new) }
+    ensures day { world.new.day ≡ world.old.day }
+{
+    let day = world.day.unwrap();
+    let came = cvca_desk::found(alloc, setup, authority, day, keeper, provider);
+    conclude(alloc, world, founded(came), line)
+}
