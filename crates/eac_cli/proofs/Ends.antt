@@ -17,22 +17,22 @@ use Rattle.eac_cli.specs.Top.{Shows, IsShown, WasRead, Ran, Whole, Stopped, Clai
 use Rattle.eac_cli.proofs.Orders.{no_fault, fault_is_one}
 
 module _ (o n : RunObjects) (left : Option (List ℕ)) (bytes : List ℕ) (done : ℕ) where
-  ended : (stop : Option Stop) (setup : SetupValue) (lines : List EventLine) → WasRead left bytes → IsScript bytes setup lines → (stop ≡ None → Whole o n lines done) → IfSome stop (λ x. Stopped o n x lines done) → Claim o n left (status_of stop) done bytes
+  ended : (stop : Option Stop) (setup : SetupValue) (lines : List EventLine) → WasRead left bytes → IsScript bytes setup lines → (stop ≡ None → Whole setup o n lines done) → IfSome stop (λ x. Stopped setup o n x lines done) → Claim o n left (status_of stop) done bytes
   ended None setup lines all is whole some = record { read = all; setup = setup; lines = lines; script = is; did = whole refl }
   ended (Some StopWriteFault) setup lines all is whole some = record { read = all; setup = setup; lines = lines; script = is; did = some }
   ended (Some StopNoMemory) setup lines all is whole some = inr (record { read = all; setup = setup; lines = lines; script = is; did = some })
 
-  pub run_claim : (stop : Option Stop) (status : Status) (setup : SetupValue) (lines slice : List EventLine) → status ≡ status_of stop → slice ≡ lines → WasRead left bytes → IsScript bytes setup lines → (stop ≡ None → Whole o n slice done) → IfSome stop (λ x. Stopped o n x slice done) → Claim o n left status done bytes
+  pub run_claim : (stop : Option Stop) (status : Status) (setup : SetupValue) (lines slice : List EventLine) → status ≡ status_of stop → slice ≡ lines → WasRead left bytes → IsScript bytes setup lines → (stop ≡ None → Whole setup o n slice done) → IfSome stop (λ x. Stopped setup o n x slice done) → Claim o n left status done bytes
   run_claim stop status setup lines slice e same all is whole some =
       subst (λ x. Claim o n left x done bytes) (sym e) (ended stop setup slice all (subst (IsScript bytes setup) (sym same) is) whole some)
 
-module _ (o n : RunObjects) (lines : List EventLine) (done : ℕ) where
-  stop_cause : (stop : Option Stop) → (stop ≡ None → Whole o n lines done) → IfSome stop (λ x. Stopped o n x lines done) → IsRunStatus (status_of stop) o.lost n.lost
+module _ (setup : SetupValue) (o n : RunObjects) (lines : List EventLine) (done : ℕ) where
+  stop_cause : (stop : Option Stop) → (stop ≡ None → Whole setup o n lines done) → IfSome stop (λ x. Stopped setup o n x lines done) → IsRunStatus (status_of stop) o.lost n.lost
   stop_cause None whole some = (whole refl).quiet
-  stop_cause (Some StopWriteFault) whole some = some.sent.3
+  stop_cause (Some StopWriteFault) whole some = some.sent.5
   stop_cause (Some StopNoMemory) whole some = some.sent.2
 
-  pub run_cause : (stop : Option Stop) (status : Status) → status ≡ status_of stop → (stop ≡ None → Whole o n lines done) → IfSome stop (λ x. Stopped o n x lines done) → IsRunStatus status o.lost n.lost
+  pub run_cause : (stop : Option Stop) (status : Status) → status ≡ status_of stop → (stop ≡ None → Whole setup o n lines done) → IfSome stop (λ x. Stopped setup o n x lines done) → IsRunStatus status o.lost n.lost
   run_cause stop status e whole some = subst (λ x. IsRunStatus x o.lost n.lost) (sym e) (stop_cause stop whole some)
 
 -- ---- counts
@@ -96,7 +96,7 @@ module _ (o n : RunObjects) (all bytes rest : List ℕ) (done : ℕ) (e : all �
   within_all : WasRead (Some rest) bytes → bytes ≡ all
   within_all read = all_read all bytes rest e read.0
 
-  script_all : (How : List EventLine → Type 0) → (r : Ran (Some rest) bytes How) → IsScript all r.setup r.lines
+  script_all : (How : SetupValue → List EventLine → Type 0) → (r : Ran (Some rest) bytes How) → IsScript all r.setup r.lines
   script_all How r = subst (λ b. IsScript b r.setup r.lines) (within_all r.read) r.script
 
   fault_all : (line rule : ℕ) → WasRead (Some rest) bytes → IsFault bytes line rule → IsFault all line rule

@@ -1,9 +1,12 @@
 pub mod CommandWords
 pub mod Ends
 pub mod Fields
+pub mod Fits
+pub mod LineTexts
 pub mod MayRun
 pub mod Orders
 pub mod Reading
 pub mod Runs
 pub mod SetupScripts
-pub mod Turning
+pub mod Spoken
+pub mod Written

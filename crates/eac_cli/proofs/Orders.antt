@@ -1,132 +1,179 @@
 -- What every script and every fault keeps.
 use Rattle.std.proofs.Common.{◌≡◌, ℕ, ◌+◌, ◌<◌, ◌≤◌, Bool, true, false, cond, refl, arith, length-append, lit≤, List, [], ◌∷◌, ◌++◌, length, Some, None, Ok, Err, sym, ap, ◌∙◌, subst, append-nil, append_assoc}
 use Rattle.std.proofs.lemmas.Bool.{ltb-false, ltb-true}
-use Rattle.std.specs.Prelude.{nat_lt}
+use Rattle.std.specs.Prelude.{nat_lt, is_some}
 use Rattle.std.specs.declared.option.Option.{Option}
 use Rattle.std.specs.declared.result.Result.{Result}
+use Rattle.std.specs.List.{cons_option, filter_map}
 use Rattle.std.specs.Option.{option_map, option_or}
 use Rattle.eac_base.specs.Answers.{◌>>=◌}
-use Rattle.policy_limits.specs.SetupText.{with_line}
+use Rattle.policy_limits.specs.SetupText.{with_line, with_lines}
 use Rattle.policy_limits.specs.declared.setup_refusal.SetupRefusal.{SetupRefusal}
-use Rattle.eac_cli.specs.LineGrammar.{rule_number}
 use Rattle.policy_limits.specs.Setup.{SetupValue}
-use Rattle.eac_cli.specs.Script.{Line, Said, InSetup, Alone, lines_read, setup_lines, setup_of, events_of, day_after, order_rule, count_rule, rule_behind, rule_in_setup, broken, Unbroken, IsScript, IsFault, IsInPlace, InOrder}
+use Rattle.eac_net.specs.Steps.{HasDay, later_day}
+use Rattle.eac_net.specs.declared.event.Event.{Event}
+use Rattle.eac_cli.specs.LineRules.{rule_number}
+use Rattle.eac_cli.specs.Naming.{event_in}
+use Rattle.eac_cli.specs.Script.{Line, Said, InSetup, Alone, lines_read, setup_lines, setup_of, named_of, event_line, events_of, day_begun, last_day, day_after, order_rule, party_rule, count_rule, rule_behind, rule_in_setup, broken, Unbroken, IsScript, IsFault, IsNotBefore, IsInPlace, InOrder}
 use Rattle.eac_cli.specs.ScriptLaws.{IsInTwoParts}
-use Rattle.eac_cli.specs.declared.event.Event.{Event}
-use Rattle.eac_cli.specs.declared.event.Event.TheVariants.{Day, Ask}
 use Rattle.eac_cli.specs.declared.event.EventLine.{EventLine}
 use Rattle.eac_cli.specs.declared.line_rule.LineRule.{LineRule}
-use Rattle.eac_cli.specs.declared.line_rule.LineRule.TheVariants.{DayFalls, TooLate, TooMany}
-use Rattle.eac_cli.proofs.Reading.{day_more, events_more}
+use Rattle.eac_cli.specs.declared.line_rule.LineRule.TheVariants.{DayFalls, TooMany, Party}
+use Rattle.eac_cli.specs.declared.named_event.NamedEvent.{NamedEvent}
+use Rattle.eac_cli.proofs.Fits.{IsWithin, Fits, named_fits, none_begins}
+use Rattle.eac_cli.proofs.Reading.{setup_then, named_more, day_more, none_yet}
+
+-- ---- what an event that breaks no rule keeps
+
+never_some : (rule : LineRule) → Some rule ≡ None → ⊥
+never_some rule e = cc
+
+first_none : (a b : Option LineRule) → option_or a b ≡ None → a ≡ None
+first_none (Some rule) b fine = absurd (never_some rule fine)
+first_none None b fine = refl
+
+second_none : (a b : Option LineRule) → option_or a b ≡ None → b ≡ None
+second_none (Some rule) b fine = absurd (never_some rule fine)
+second_none None b fine = fine
+
+module _ (setup : Result SetupValue SetupRefusal) (today : Option ℕ) (events : ℕ) (event : NamedEvent) (fine : rule_behind setup today events event ≡ None) where
+  pub in_order_behind : order_rule today (day_begun event) ≡ None
+  in_order_behind = first_none (order_rule today (day_begun event)) (option_or (party_rule setup event) (count_rule events)) fine
+
+  parties_and_count : option_or (party_rule setup event) (count_rule events) ≡ None
+  parties_and_count = second_none (order_rule today (day_begun event)) (option_or (party_rule setup event) (count_rule events)) fine
+
+  pub parties_behind : party_rule setup event ≡ None
+  parties_behind = first_none (party_rule setup event) (count_rule events) parties_and_count
+
+  pub count_behind : count_rule events ≡ None
+  count_behind = second_none (party_rule setup event) (count_rule events) parties_and_count
 
 -- ---- each event is in its place
 
-none_before : (b : Bool) (o : Option LineRule) → option_or (cond b (Some DayFalls) None) o ≡ None → b ≡ false
-none_before true o fine = cc
-none_before false o fine = refl
+falls : (b : Bool) → cond b (Some DayFalls) None ≡ None → b ≡ false
+falls true fine = absurd (never_some DayFalls fine)
+falls false fine = refl
 
-in_place : (today : Option ℕ) (events : ℕ) (event : Event) → rule_behind today events event ≡ None → IsInPlace today event
-in_place None events (Day day) fine = tt
-in_place None events (Ask reference bytes) fine = cc
-in_place (Some today) events (Day day) fine = ltb-false day today (none_before (nat_lt day today) (count_rule events) fine)
-in_place (Some today) events (Ask reference bytes) fine = tt
+not_before : (today begun : Option ℕ) → order_rule today begun ≡ None → IsNotBefore today (option_or begun today)
+not_before None begun fine = tt
+not_before (Some today) None fine = omega arith
+not_before (Some today) (Some day) fine = ltb-false day today (falls (nat_lt day today) fine)
 
-order_after : (earlier lines : List Line) → Unbroken earlier lines → InOrder (day_after None earlier) (events_of lines)
-order_after earlier [] fine = tt
-order_after earlier ((n, InSetup text) ∷ lines) fine =
-    subst (λ d. InOrder d (events_of lines)) (day_more None earlier ((n, InSetup text) ∷ [])) (order_after (earlier ++ (n, InSetup text) ∷ []) lines fine.1)
-order_after earlier ((n, Alone (Ok event)) ∷ lines) fine =
-    (in_place (day_after None earlier) (length (events_of earlier)) event fine.0, subst (λ d. InOrder d (events_of lines)) (day_more None earlier ((n, Alone (Ok event)) ∷ [])) (order_after (earlier ++ (n, Alone (Ok event)) ∷ []) lines fine.1))
-order_after earlier ((n, Alone (Err rule)) ∷ lines) fine = absurd (never fine.0)
-  where
-    never : Some rule ≡ None → ⊥
-    never e = cc
+-- Each event line names an event, or none; those that are named are in order, and the day in force goes along.
+abbrev pub AllWithin : List (ℕ × NamedEvent) → Type 0
+AllWithin [] = Unit {0}
+AllWithin (line ∷ lines) = IsWithin line.1 × AllWithin lines
 
-pub in_order : (bytes : List ℕ) (setup : SetupValue) (events : List EventLine) → IsScript bytes setup events → InOrder None events
-in_order bytes setup events s = subst (InOrder None) (sym s.events_are) (order_after [] (lines_read bytes) s.fine)
+place_step : (setup : SetupValue) (today : Option ℕ) (n : ℕ) (event : NamedEvent) (named : Option Event) (rest : List EventLine) → event_in setup event ≡ named → IsWithin event → order_rule today (day_begun event) ≡ None → InOrder (option_or (day_begun event) today) rest → InOrder today (cons_option (option_map (λ (e : Event). record { line = n; event = e }) named) rest)
+place_step setup today n event None rest is within fine order =
+    subst (λ (begun : Option ℕ). InOrder (option_or begun today) rest) (none_begins setup event is) order
+place_step setup today n event (Some e) rest is within fine order =
+    let f : Fits setup event e = named_fits setup event e within is in (
+      record { day = f.has today fine; later = subst (IsNotBefore today) (sym (f.later today)) (not_before today (day_begun event) fine) },
+      subst (λ (d : Option ℕ). InOrder d rest) (sym (f.later today)) order,
+    )
+
+order_after : (setup : SetupValue) (earlier lines : List Line) → AllWithin (named_of lines) → Unbroken earlier lines → InOrder (day_after earlier) (events_of setup lines)
+order_after setup earlier [] within fine = tt
+order_after setup earlier ((n, InSetup text) ∷ lines) within fine =
+    subst (λ d. InOrder d (events_of setup lines)) (day_more earlier ((n, InSetup text) ∷ [])) (order_after setup (earlier ++ (n, InSetup text) ∷ []) lines within fine.1)
+order_after setup earlier ((n, Alone (Ok event)) ∷ lines) within fine =
+    place_step setup (day_after earlier) n event (event_in setup event) (events_of setup lines) refl within.0
+    (in_order_behind (setup_of earlier) (day_after earlier) (length (named_of earlier)) event fine.0)
+    (subst (λ d. InOrder d (events_of setup lines)) (day_more earlier ((n, Alone (Ok event)) ∷ [])) (order_after setup (earlier ++ (n, Alone (Ok event)) ∷ []) lines within.1 fine.1))
+order_after setup earlier ((n, Alone (Err rule)) ∷ lines) within fine = absurd (never_some rule fine.0)
 
 -- ---- a script is short
 
-room : (today : Option ℕ) (events : ℕ) (event : Event) → rule_behind today events event ≡ None → events < 20000
-room today events event fine = below (nat_lt events 20000) (order_rule today event) refl fine
-  where
-    below : (b : Bool) (o : Option LineRule) → b ≡ nat_lt events 20000 → option_or o (cond b None (Some TooMany)) ≡ None → events < 20000
-    below b (Some rule) e fine = absurd (never fine)
-      where
-        never : Some rule ≡ None → ⊥
-        never e = cc
-    below false None e fine = absurd (never fine)
-      where
-        never : Some TooMany ≡ None → ⊥
-        never e = cc
-    below true None e fine = ltb-true events 20000 (sym e)
+room : (b : Bool) (events : ℕ) → b ≡ nat_lt events 20000 → cond b None (Some TooMany) ≡ None → events < 20000
+room true events e fine = ltb-true events 20000 (sym e)
+room false events e fine = absurd (never_some TooMany fine)
 
-count_after : (earlier lines : List Line) → length (events_of earlier) ≤ 20000 → Unbroken earlier lines → length (events_of earlier) + length (events_of lines) ≤ 20000
+count_after : (earlier lines : List Line) → length (named_of earlier) ≤ 20000 → Unbroken earlier lines → length (named_of earlier) + length (named_of lines) ≤ 20000
 count_after earlier [] before fine = omega arith
 count_after earlier ((n, InSetup text) ∷ lines) before fine =
-    let same : length (events_of (earlier ++ (n, InSetup text) ∷ [])) ≡ length (events_of earlier) = ap length (events_more earlier ((n, InSetup text) ∷ []) ∙ append-nil (events_of earlier)) in
-    let more : length (events_of (earlier ++ (n, InSetup text) ∷ [])) + length (events_of lines) ≤ 20000 = count_after (earlier ++ (n, InSetup text) ∷ []) lines (omega arith) fine.1 in
+    let same : length (named_of (earlier ++ (n, InSetup text) ∷ [])) ≡ length (named_of earlier) = ap length (named_more earlier ((n, InSetup text) ∷ []) ∙ append-nil (named_of earlier)) in
+    let more : length (named_of (earlier ++ (n, InSetup text) ∷ [])) + length (named_of lines) ≤ 20000 = count_after (earlier ++ (n, InSetup text) ∷ []) lines (omega arith) fine.1 in
     omega arith
 count_after earlier ((n, Alone (Ok event)) ∷ lines) before fine =
-    let below : length (events_of earlier) < 20000 = room (day_after None earlier) (length (events_of earlier)) event fine.0 in
-    let one : length (events_of (earlier ++ (n, Alone (Ok event)) ∷ [])) ≡ length (events_of earlier) + 1 = ap length (events_more earlier ((n, Alone (Ok event)) ∷ [])) ∙ length-append (events_of earlier) (record { line = n; event = event } ∷ []) in
-    let more : length (events_of (earlier ++ (n, Alone (Ok event)) ∷ [])) + length (events_of lines) ≤ 20000 = count_after (earlier ++ (n, Alone (Ok event)) ∷ []) lines (omega arith) fine.1 in
+    let below : length (named_of earlier) < 20000 = room (nat_lt (length (named_of earlier)) 20000) (length (named_of earlier)) refl (count_behind (setup_of earlier) (day_after earlier) (length (named_of earlier)) event fine.0) in
+    let one : length (named_of (earlier ++ (n, Alone (Ok event)) ∷ [])) ≡ length (named_of earlier) + 1 = ap length (named_more earlier ((n, Alone (Ok event)) ∷ [])) ∙ length-append (named_of earlier) ((n, event) ∷ []) in
+    let more : length (named_of (earlier ++ (n, Alone (Ok event)) ∷ [])) + length (named_of lines) ≤ 20000 = count_after (earlier ++ (n, Alone (Ok event)) ∷ []) lines (omega arith) fine.1 in
     omega arith
-count_after earlier ((n, Alone (Err rule)) ∷ lines) before fine = absurd (never fine.0)
-  where
-    never : Some rule ≡ None → ⊥
-    never e = cc
-
-pub short : (bytes : List ℕ) (setup : SetupValue) (events : List EventLine) → IsScript bytes setup events → length events ≤ 20000
-short bytes setup events s = subst (λ es. length es ≤ 20000) (sym s.events_are) (omega (arith, count_after [] (lines_read bytes) (lit≤ tt) s.fine))
+count_after earlier ((n, Alone (Err rule)) ∷ lines) before fine = absurd (never_some rule fine.0)
 
 -- ---- setup lines come first
 
--- A setup line that breaks no rule has no event before it.
-none_yet : (o : Option LineRule) (events : ℕ) (b : Bool) → b ≡ nat_lt 0 events → option_or o (cond b (Some TooLate) None) ≡ None → events ≡ 0
-none_yet (Some rule) events b e fine = absurd (never fine)
-  where
-    never : Some rule ≡ None → ⊥
-    never e = cc
-none_yet None events true e fine = absurd (never fine)
-  where
-    never : Some TooLate ≡ None → ⊥
-    never e = cc
-none_yet None events false e fine = omega (arith, ltb-false 0 events (sym e))
-
-no_more : (xs : List EventLine) → length xs ≡ 0 → xs ≡ []
-no_more [] none = refl
-no_more (x ∷ xs) none = absurd (omega arith)
-
 -- Behind an event no setup line comes.
-late : (earlier lines : List Line) → (length (events_of earlier) ≡ 0 → ⊥) → Unbroken earlier lines → setup_lines lines ≡ []
+late : (earlier lines : List Line) → (length (named_of earlier) ≡ 0 → ⊥) → Unbroken earlier lines → setup_lines lines ≡ []
 late earlier [] some fine = refl
 late earlier ((n, InSetup text) ∷ lines) some fine =
-    absurd (some (none_yet (rule_in_setup (setup_of earlier >>= λ r. with_line r (n, text))) (length (events_of earlier)) (nat_lt 0 (length (events_of earlier))) refl fine.0))
+    absurd (some (none_yet (rule_in_setup (setup_of earlier >>= λ r. with_line r (n, text))) (length (named_of earlier)) (nat_lt 0 (length (named_of earlier))) refl fine.0))
 late earlier ((n, Alone read) ∷ lines) some fine =
-    late (earlier ++ (n, Alone read) ∷ []) lines (λ none. some (omega (arith, none, ap length (events_more earlier ((n, Alone read) ∷ [])), length-append (events_of earlier) (events_of ((n, Alone read) ∷ []))))) fine.1
+    late (earlier ++ (n, Alone read) ∷ []) lines (λ none. some (omega (arith, none, ap length (named_more earlier ((n, Alone read) ∷ [])), length-append (named_of earlier) (named_of ((n, Alone read) ∷ []))))) fine.1
 
-two_parts : (earlier lines : List Line) → events_of earlier ≡ [] → Unbroken earlier lines → IsInTwoParts lines
+behind_event : (earlier lines : List Line) (n : ℕ) (event : NamedEvent) → Unbroken (earlier ++ (n, Alone (Ok event)) ∷ []) lines → setup_lines lines ≡ []
+behind_event earlier lines n event fine =
+    late (earlier ++ (n, Alone (Ok event)) ∷ []) lines (λ zero. absurd (omega (arith, zero, ap length (named_more earlier ((n, Alone (Ok event)) ∷ [])), length-append (named_of earlier) ((n, event) ∷ [])))) fine
+
+two_parts : (earlier lines : List Line) → named_of earlier ≡ [] → Unbroken earlier lines → IsInTwoParts lines
 two_parts earlier [] none fine = record { front = []; back = []; cut = refl; no_event = refl; no_setup = refl }
 two_parts earlier ((n, InSetup text) ∷ lines) none fine =
-    let rest = two_parts (earlier ++ (n, InSetup text) ∷ []) lines (events_more earlier ((n, InSetup text) ∷ []) ∙ ap (λ (es : List EventLine). es ++ []) none) fine.1 in
+    let rest = two_parts (earlier ++ (n, InSetup text) ∷ []) lines (named_more earlier ((n, InSetup text) ∷ []) ∙ ap (λ (es : List (ℕ × NamedEvent)). es ++ []) none) fine.1 in
     record { front = (n, InSetup text) ∷ rest.front; back = rest.back; cut = ap (λ (ls : List Line). (n, InSetup text) ∷ ls) rest.cut; no_event = rest.no_event; no_setup = rest.no_setup }
 two_parts earlier ((n, Alone (Ok event)) ∷ lines) none fine = record {
   front = [];
   back = (n, Alone (Ok event)) ∷ lines;
   cut = refl;
   no_event = refl;
-  no_setup = late (earlier ++ (n, Alone (Ok event)) ∷ []) lines (λ zero. absurd (omega (arith, zero, ap length (events_more earlier ((n, Alone (Ok event)) ∷ [])), length-append (events_of earlier) (record { line = n; event = event } ∷ [])))) fine.1;
+  no_setup = behind_event earlier lines n event fine.1;
 }
-two_parts earlier ((n, Alone (Err rule)) ∷ lines) none fine = absurd (never fine.0)
-  where
-    never : Some rule ≡ None → ⊥
-    never e = cc
+two_parts earlier ((n, Alone (Err rule)) ∷ lines) none fine = absurd (never_some rule fine.0)
 
 pub in_two_parts : (bytes : List ℕ) (setup : SetupValue) (events : List EventLine) → IsScript bytes setup events → IsInTwoParts (lines_read bytes)
 in_two_parts bytes setup events s = two_parts [] (lines_read bytes) refl s.fine
 
--- ---- a setup is one
+-- ---- no event is lost
+
+is_behind : (r : Result SetupValue SetupRefusal) (ls : List (ℕ × List ℕ)) (setup : SetupValue) → ls ≡ [] → (r >>= λ x. with_lines x ls) ≡ Ok setup → r ≡ Ok setup
+is_behind (Ok x) ls setup none is = ap (λ (l : List (ℕ × List ℕ)). with_lines x l) (sym none) ∙ is
+is_behind (Err e) ls setup none is = is
+
+-- the setup that the lines have in the end is there before their first event
+setup_there : (earlier lines : List Line) (n : ℕ) (event : NamedEvent) (setup : SetupValue) → Unbroken (earlier ++ (n, Alone (Ok event)) ∷ []) lines → setup_of (earlier ++ (n, Alone (Ok event)) ∷ lines) ≡ Ok setup → setup_of earlier ≡ Ok setup
+setup_there earlier lines n event setup fine is =
+    is_behind (setup_of earlier) (setup_lines lines) setup (behind_event earlier lines n event fine) (sym (setup_then earlier ((n, Alone (Ok event)) ∷ lines)) ∙ is)
+
+is_named : (b : Bool) → cond b None (Some Party) ≡ None → b ≡ true
+is_named true fine = refl
+is_named false fine = absurd (never_some Party fine)
+
+one_more : (n : ℕ) (named : Option Event) (rest : List EventLine) → is_some named ≡ true → length (cons_option (option_map (λ (e : Event). record { line = n; event = e }) named) rest) ≡ length rest + 1
+one_more n (Some e) rest some = omega arith
+one_more n None rest some = absurd (cc)
+
+all_named : (setup : SetupValue) (earlier lines : List Line) → Unbroken earlier lines → setup_of (earlier ++ lines) ≡ Ok setup → length (events_of setup lines) ≡ length (named_of lines)
+all_named setup earlier [] fine is = refl
+all_named setup earlier ((n, InSetup text) ∷ lines) fine is =
+    all_named setup (earlier ++ (n, InSetup text) ∷ []) lines fine.1 (ap setup_of (append_assoc earlier ((n, InSetup text) ∷ []) lines) ∙ is)
+all_named setup earlier ((n, Alone (Ok event)) ∷ lines) fine is =
+    let rest = all_named setup (earlier ++ (n, Alone (Ok event)) ∷ []) lines fine.1 (ap setup_of (append_assoc earlier ((n, Alone (Ok event)) ∷ []) lines) ∙ is) in
+    let here : party_rule (Ok setup) event ≡ None = ap (λ (r : Result SetupValue SetupRefusal). party_rule r event) (sym (setup_there earlier lines n event setup fine.1 is)) ∙ parties_behind (setup_of earlier) (day_after earlier) (length (named_of earlier)) event fine.0 in
+    let more : length (events_of setup ((n, Alone (Ok event)) ∷ lines)) ≡ length (events_of setup lines) + 1 = one_more n (event_in setup event) (events_of setup lines) (is_named (is_some (event_in setup event)) here) in
+    omega (arith, more, rest)
+all_named setup earlier ((n, Alone (Err rule)) ∷ lines) fine is = absurd (never_some rule fine.0)
+
+pub none_lost : (bytes : List ℕ) (setup : SetupValue) (events : List EventLine) → IsScript bytes setup events → length events ≡ length (named_of (lines_read bytes))
+none_lost bytes setup events s = ap length s.events_are ∙ all_named setup [] (lines_read bytes) s.fine s.setup_is
+
+pub short : (bytes : List ℕ) (setup : SetupValue) (events : List EventLine) → IsScript bytes setup events → length events ≤ 20000
+short bytes setup events s = omega (arith, none_lost bytes setup events s, count_after [] (lines_read bytes) (lit≤ tt) s.fine)
+
+pub in_order : (bytes : List ℕ) (setup : SetupValue) (events : List EventLine) → AllWithin (named_of (lines_read bytes)) → IsScript bytes setup events → InOrder None events
+in_order bytes setup events within s = subst (InOrder None) (sym s.events_are) (order_after setup [] (lines_read bytes) within s.fine)
+
+-- ---- setup and events are one
 
 ok_same : (r : Result SetupValue SetupRefusal) (setup setup' : SetupValue) → r ≡ Ok setup → r ≡ Ok setup' → setup ≡ setup'
 ok_same r setup setup' e e' = cc

@@ -3,7 +3,7 @@ use Rattle.std.proofs.Common.{◌≡◌, ℕ, Bool, true, false, cond, List, [],
 use Rattle.std.specs.declared.option.Option.{Option}
 use Rattle.std.specs.declared.result.Result.{Result}
 use Rattle.std.specs.Prelude.{codes, ◌||◌}
-use Rattle.std.specs.List.{list_all}
+use Rattle.std.specs.List.{list_all, filter_map}
 use Rattle.std.specs.Option.{option_or}
 use Rattle.std.specs.Str.{bytes_eq}
 use Rattle.eac_base.specs.Answers.{◌>>=◌, some_or, ◌gives◌}
@@ -16,13 +16,13 @@ use Rattle.policy_limits.specs.declared.party.PartyKind.TheVariants as kinds
 use Rattle.policy_limits.specs.declared.setup_line.SetupLine.{SetupLine}
 use Rattle.policy_limits.specs.declared.setup_refusal.SetupRefusal.{SetupRefusal}
 use Rattle.policy_limits.specs.declared.setup_refusal.SetupRefusal.TheVariants.{Form}
-use Rattle.eac_cli.specs.Script.{Line, InSetup, Alone, line_of, setup_lines, setup_of, events_of, rule_in_setup, late_rule, setup_rule_behind, broken, Unbroken, IsScript}
+use Rattle.eac_cli.specs.Script.{Line, InSetup, Alone, line_of, setup_lines, setup_of, named_of, event_line, rule_in_setup, late_rule, setup_rule_behind, broken, Unbroken, IsScript}
 use Rattle.eac_cli.specs.ScriptLaws.{SetupsAreScripts}
 use Rattle.eac_cli.specs.LineGrammar.{event_of}
-use Rattle.eac_cli.specs.declared.event.Event.{Event}
-use Rattle.eac_cli.specs.declared.event.EventLine.{EventLine}
 use Rattle.eac_cli.specs.declared.line_rule.LineRule.{LineRule}
-use Rattle.eac_cli.proofs.Reading.{setup_then, events_more}
+use Rattle.eac_cli.specs.declared.named_event.NamedEvent.{NamedEvent}
+use Rattle.eac_cli.proofs.Orders.{none_lost}
+use Rattle.eac_cli.proofs.Reading.{setup_then, named_more, no_names}
 
 -- ---- a line that is taken is a setup line
 
@@ -61,9 +61,9 @@ module _ (r next : SetupValue) (n : ℕ) where
 record GoesOn (earlier : List Line) (ls : List (ℕ × List ℕ)) : Type 0 where
   pub fine : Unbroken earlier (map line_of ls)
   pub same : setup_lines (map line_of ls) ≡ ls
-  pub no_event : events_of (map line_of ls) ≡ []
+  pub no_event : named_of (map line_of ls) ≡ []
 
-module _ (earlier : List Line) (start : SetupValue) (n : ℕ) (text : List ℕ) (ls : List (ℕ × List ℕ)) (behind : setup_of earlier ≡ Ok start) (no_event : events_of earlier ≡ []) where
+module _ (earlier : List Line) (start : SetupValue) (n : ℕ) (text : List ℕ) (ls : List (ℕ × List ℕ)) (behind : setup_of earlier ≡ Ok start) (no_event : named_of earlier ≡ []) where
   abbrev one : Line
   one = (n, InSetup text)
 
@@ -72,15 +72,15 @@ module _ (earlier : List Line) (start : SetupValue) (n : ℕ) (text : List ℕ) 
 
   breaks_none : (next : SetupValue) → with_line start (n, text) ≡ Ok next → broken earlier one ≡ None
   breaks_none next is =
-      ap (λ s. setup_rule_behind s (length (events_of earlier)) (n, text)) behind
-      ∙ ap (λ w. option_or (rule_in_setup w) (late_rule (length (events_of earlier)))) is
-      ∙ ap (λ (es : List EventLine). late_rule (length es)) no_event
+      ap (λ s. setup_rule_behind s (length (named_of earlier)) (n, text)) behind
+      ∙ ap (λ w. option_or (rule_in_setup w) (late_rule (length (named_of earlier)))) is
+      ∙ ap (λ (es : List (ℕ × NamedEvent)). late_rule (length es)) no_event
 
   later : (next : SetupValue) → with_line start (n, text) ≡ Ok next → setup_of (earlier ++ one ∷ []) ≡ Ok next
   later next is = setup_then earlier (one ∷ []) ∙ ap (λ s. s >>= λ r. with_lines r ((n, text) ∷ [])) behind ∙ ap (λ w. w >>= λ r. with_lines r []) is
 
-  still_none : events_of (earlier ++ one ∷ []) ≡ []
-  still_none = events_more earlier (one ∷ []) ∙ ap (λ (es : List EventLine). es ++ []) no_event
+  still_none : named_of (earlier ++ one ∷ []) ≡ []
+  still_none = named_more earlier (one ∷ []) ∙ ap (λ (es : List (ℕ × NamedEvent)). es ++ []) no_event
 
   goes_on_with : (next : SetupValue) → with_line start (n, text) ≡ Ok next → GoesOn (earlier ++ one ∷ []) ls → GoesOn earlier ((n, text) ∷ ls)
   goes_on_with next is rest =
@@ -88,7 +88,7 @@ module _ (earlier : List Line) (start : SetupValue) (n : ℕ) (text : List ℕ) 
       record {
         fine = subst (λ l. (broken earlier l ≡ None) × Unbroken (earlier ++ l ∷ []) (map line_of ls)) same (breaks_none next is, rest.fine);
         same = subst (λ l. setup_lines (l ∷ map line_of ls) ≡ (n, text) ∷ ls) same (ap (λ l. (n, text) ∷ l) rest.same);
-        no_event = subst (λ l. events_of (l ∷ map line_of ls) ≡ []) same rest.no_event;
+        no_event = subst (λ l. named_of (l ∷ map line_of ls) ≡ []) same rest.no_event;
       }
 
   by_line : (w : Result SetupValue SetupRefusal) (setup : SetupValue) → with_line start (n, text) ≡ w → (w >>= λ r. with_lines r ls) ≡ Ok setup → ((next : SetupValue) → with_line start (n, text) ≡ Ok next → with_lines next ls ≡ Ok setup → GoesOn (earlier ++ one ∷ []) ls) → GoesOn earlier ((n, text) ∷ ls)
@@ -98,7 +98,7 @@ module _ (earlier : List Line) (start : SetupValue) (n : ℕ) (text : List ℕ) 
       never : Err f ≡ Ok setup → ⊥
       never e = cc
 
-goes_on : (earlier : List Line) (start setup : SetupValue) (ls : List (ℕ × List ℕ)) → setup_of earlier ≡ Ok start → events_of earlier ≡ [] → with_lines start ls ≡ Ok setup → GoesOn earlier ls
+goes_on : (earlier : List Line) (start setup : SetupValue) (ls : List (ℕ × List ℕ)) → setup_of earlier ≡ Ok start → named_of earlier ≡ [] → with_lines start ls ≡ Ok setup → GoesOn earlier ls
 goes_on earlier start setup [] behind no_event read = record { fine = tt; same = refl; no_event = refl }
 goes_on earlier start setup ((n, text) ∷ ls) behind no_event read =
     by_line earlier start n text ls behind no_event (with_line start (n, text)) setup refl read
@@ -107,18 +107,18 @@ goes_on earlier start setup ((n, text) ∷ ls) behind no_event read =
 -- ---- from a script to a setup
 
 module _ (earlier : List Line) (n : ℕ) (text : List ℕ) (ls : List (ℕ × List ℕ)) where
-  no_other : (setup : Bool) (read : Result Event LineRule) → broken earlier (n, cond setup (InSetup text) (Alone read)) ≡ None → events_of ((n, cond setup (InSetup text) (Alone read)) ∷ map line_of ls) ≡ [] → (events_of (map line_of ls) ≡ [] → setup_lines (map line_of ls) ≡ ls) → setup_lines ((n, cond setup (InSetup text) (Alone read)) ∷ map line_of ls) ≡ (n, text) ∷ ls
+  no_other : (setup : Bool) (read : Result NamedEvent LineRule) → broken earlier (n, cond setup (InSetup text) (Alone read)) ≡ None → named_of ((n, cond setup (InSetup text) (Alone read)) ∷ map line_of ls) ≡ [] → (named_of (map line_of ls) ≡ [] → setup_lines (map line_of ls) ≡ ls) → setup_lines ((n, cond setup (InSetup text) (Alone read)) ∷ map line_of ls) ≡ (n, text) ∷ ls
   no_other true read fine none rest = ap (λ l. (n, text) ∷ l) (rest none)
   no_other false (Ok event) fine none rest = absurd (never none)
     where
-      never : record { line = n; event = event } ∷ events_of (map line_of ls) ≡ [] → ⊥
+      never : (n, event) ∷ named_of (map line_of ls) ≡ [] → ⊥
       never e = cc
   no_other false (Err rule) fine none rest = absurd (never fine)
     where
       never : Some rule ≡ None → ⊥
       never e = cc
 
-all_setup : (earlier : List Line) (ls : List (ℕ × List ℕ)) → Unbroken earlier (map line_of ls) → events_of (map line_of ls) ≡ [] → setup_lines (map line_of ls) ≡ ls
+all_setup : (earlier : List Line) (ls : List (ℕ × List ℕ)) → Unbroken earlier (map line_of ls) → named_of (map line_of ls) ≡ [] → setup_lines (map line_of ls) ≡ ls
 all_setup earlier [] fine none = refl
 all_setup earlier ((n, text) ∷ ls) fine none =
     no_other earlier n text ls (is_setup_line text) (event_of text) fine.0 none (all_setup (earlier ++ line_of (n, text) ∷ []) ls fine.1)
@@ -129,8 +129,8 @@ setups_are_scripts text setup = (script, setup_read)
     script : read_setup text ≡ Ok setup → IsScript text setup []
     script read =
         let on = goes_on [] (setup_value [] []) setup (numbered_lines text) refl refl read in
-        record { fine = on.fine; setup_is = ap (with_lines (setup_value [] [])) on.same ∙ read; events_are = sym on.no_event }
+        record { fine = on.fine; setup_is = ap (with_lines (setup_value [] [])) on.same ∙ read; events_are = sym (ap (filter_map (event_line setup)) on.no_event) }
 
     setup_read : IsScript text setup [] → read_setup text ≡ Ok setup
     setup_read s =
-        ap (with_lines (setup_value [] [])) (sym (all_setup [] (numbered_lines text) s.fine (sym s.events_are))) ∙ s.setup_is
+        ap (with_lines (setup_value [] [])) (sym (all_setup [] (numbered_lines text) s.fine (no_names (named_of (map line_of (numbered_lines text))) (sym (none_lost text setup [] s))))) ∙ s.setup_is

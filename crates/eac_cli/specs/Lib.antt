@@ -1,10 +1,14 @@
-pub mod Journal
+pub mod ActLines
+pub mod AskLines
+pub mod DayLines
 pub mod LineGrammar
+pub mod LineRules
+pub mod LineWords
+pub mod Naming
 pub mod Objects
+pub mod PacketLines
 pub mod Script
 pub mod ScriptLaws
 pub mod Show
-pub mod State
 pub mod Steps
 pub mod Top
-pub mod Turn

@@ -1,68 +1,46 @@
--- The event that a line of a script says, or the rule that the line breaks by itself (this project's own). Setup lines
--- have their grammar where setups have.
-use Rattle.std.specs.Prelude.{ℕ, List, [], ◌∷◌, length, codes, nat_le, Option, Some, None, Result, Ok, Err}
-use Rattle.std.specs.Prelude.{if◌then◌else◌}
-use Rattle.std.specs.Result.{result_map_both}
+-- The event that a line of a script names, or the rule that the line breaks by itself (this project's own). Setup lines
+-- have their grammar where setups have, and each family of events has its own.
+use Rattle.std.specs.Prelude.{ℕ, List, [], ◌∷◌, codes, Option, Some, None, Result, Err, if◌then◌else◌}
 use Rattle.std.specs.Str.{bytes_eq}
-use Rattle.eac_base.specs.Answers.{◌>>=◌, ◌>>◌, unless, some_or}
-use Rattle.eac_base.specs.Text.{words, hex_bytes}
-use Rattle.cv_dates.specs.Calendar.{day_from_text}
-use Rattle.holder_reference.specs.Reference.{is_reference}
-use Rattle.plain_text.specs.Lines.{one_word, two_words}
-use Rattle.eac_cli.specs.declared.event.Event.{Event}
-use Rattle.eac_cli.specs.declared.event.Event.TheVariants.{Day, Ask}
+use Rattle.eac_base.specs.Answers.{◌>>=◌, some_or}
+use Rattle.eac_base.specs.Text.{words}
+use Rattle.eac_cli.specs.ActLines.{found_said, link_said, trust_said, apply_said}
+use Rattle.eac_cli.specs.AskLines.{ask_said}
+use Rattle.eac_cli.specs.DayLines.{day_said}
+use Rattle.eac_cli.specs.PacketLines.{fetch_said, push_said, send_said, deliver_said}
+use Rattle.eac_cli.specs.declared.event_kind.EventKind.{EventKind}
+use Rattle.eac_cli.specs.declared.event_kind.EventKind.TheVariants.{Day, Ask, Found, Link, Trust, Apply}
+use Rattle.eac_cli.specs.declared.event_kind.EventKind.TheVariants.{Fetch, Push, Send, Deliver}
 use Rattle.eac_cli.specs.declared.line_rule.LineRule.{LineRule}
-use Rattle.eac_cli.specs.declared.line_rule.LineRule.TheVariants.{Grammar, Limit, Twice, TooLate, TooEarly, DayFalls}
-use Rattle.eac_cli.specs.declared.line_rule.LineRule.TheVariants.{TooMany}
-use Rattle.eac_cli.specs.declared.line_rule.LineRefusal.{LineRefusal}
-use Rattle.eac_cli.specs.declared.line_rule.LineRefusal.TheVariants.{Rule, NoMemory}
-
--- ---- rules
-
-abbrev pub rule_number : LineRule → ℕ
-rule_number Grammar = 1
-rule_number Limit = 2
-rule_number Twice = 3
-rule_number TooLate = 4
-rule_number TooEarly = 4
-rule_number DayFalls = 5
-rule_number TooMany = 7
-
--- The rule for which a line is refused. Want of memory is no rule.
-abbrev pub rule_of : LineRefusal → Option LineRule
-rule_of (Rule rule) = Some rule
-rule_of NoMemory = None
-
--- ---- `day DATE`
-
--- A date names a day of the calendar by its six digits.
-abbrev pub day_of : List ℕ → Result Event LineRule
-day_of date = result_map_both Day (λ why. Grammar) (day_from_text date)
-
-abbrev pub day_said : List (List ℕ) → Result Event LineRule
-day_said rest = some_or (one_word rest) Grammar >>= day_of
-
--- ---- `ask REFERENCE HEX`
-
--- HEX says 4,096 bytes at most.
-abbrev pub ask_with : List ℕ → List ℕ → Result Event LineRule
-ask_with reference bytes = if nat_le (length bytes) 4096 then Ok (Ask reference bytes) else Err Limit
-
-abbrev pub ask_of : List ℕ → List ℕ → Result Event LineRule
-ask_of reference hex =
-    unless (is_reference reference) Grammar >> (some_or (hex_bytes hex) Grammar >>= ask_with reference)
-
-abbrev pub ask_said : List (List ℕ) → Result Event LineRule
-ask_said rest = some_or (two_words rest) Grammar >>= λ w. ask_of w.0 w.1
-
--- ---- the line
+use Rattle.eac_cli.specs.declared.line_rule.LineRule.TheVariants.{Grammar}
+use Rattle.eac_cli.specs.declared.named_event.NamedEvent.{NamedEvent}
 
 -- The first word says the kind of the event.
-abbrev pub event_said : List (List ℕ) → Result Event LineRule
-event_said [] = Err Grammar
-event_said (kind ∷ rest) =
-    if bytes_eq kind (codes "day") then day_said rest
-    else (if bytes_eq kind (codes "ask") then ask_said rest else Err Grammar)
+abbrev pub kind_word : List ℕ → Option EventKind
+kind_word w =
+    if bytes_eq w (codes "day") then Some Day else (if bytes_eq w (codes "ask") then Some Ask
+    else (if bytes_eq w (codes "found") then Some Found else (if bytes_eq w (codes "link") then Some Link
+    else (if bytes_eq w (codes "trust") then Some Trust else (if bytes_eq w (codes "apply") then Some Apply
+    else (if bytes_eq w (codes "fetch") then Some Fetch else (if bytes_eq w (codes "push") then Some Push
+    else (if bytes_eq w (codes "send") then Some Send else (if bytes_eq w (codes "deliver") then Some Deliver
+    else None)))))))))
 
-abbrev pub event_of : List ℕ → Result Event LineRule
+-- What stands behind it.
+abbrev pub said_as : EventKind → List (List ℕ) → Result NamedEvent LineRule
+said_as Day rest = day_said rest
+said_as Ask rest = ask_said rest
+said_as Found rest = found_said rest
+said_as Link rest = link_said rest
+said_as Trust rest = trust_said rest
+said_as Apply rest = apply_said rest
+said_as Fetch rest = fetch_said rest
+said_as Push rest = push_said rest
+said_as Send rest = send_said rest
+said_as Deliver rest = deliver_said rest
+
+abbrev pub event_said : List (List ℕ) → Result NamedEvent LineRule
+event_said [] = Err Grammar
+event_said (w ∷ rest) = some_or (kind_word w) Grammar >>= λ kind. said_as kind rest
+
+abbrev pub event_of : List ℕ → Result NamedEvent LineRule
 event_of line = some_or (words line) Grammar >>= event_said

@@ -3,19 +3,18 @@
 use Rattle.std.specs.Prelude.{ℕ, List, Option}
 use Rattle.eac_base.specs.declared.streams.Stream.{Ghosts as StreamOf}
 use Rattle.eac_base.specs.Causes.{Rose}
-use Rattle.keeper.specs.declared.rows.Row.{Row}
 use Rattle.keeper.specs.declared.keeping.Keeper.{Ghosts as KeeperOf}
+use Rattle.signature_provider.specs.declared.provider.SignatureProvider.{Ghosts as ProviderOf}
+use Rattle.eac_net.specs.Objects.{Outside, outside}
 
--- The objects that a run changes: the sink and the keeper.
+-- The objects that a run changes: the sink, and what events call.
 pub record RunObjects : Type 0 where
   -- the bytes that the sink took
   pub taken : Option (List ℕ)
   -- how often a write has failed
   pub lost : ℕ
-  -- the keeper's rows
-  pub rows : Option (List Row)
-  -- how often a call of the keeper has failed
-  pub keeper_faults : ℕ
+  -- the keeper and the provider
+  pub outside : Outside
 
 -- All objects of a call.
 pub record Objects : Type 0 where
@@ -27,20 +26,19 @@ pub record Objects : Type 0 where
   pub reads : Option ℕ
   pub run : RunObjects
 
-abbrev pub run_objects : {K B : Type 0} → StreamOf K → KeeperOf B → K → B → RunObjects
-run_objects K B sink keeper = record {
+abbrev pub run_objects : {K B P : Type 0} → StreamOf K → KeeperOf B → ProviderOf P → K → B → P → RunObjects
+run_objects K B P sink keeper provider = record {
   taken = K.taken sink;
   lost = K.lost sink;
-  rows = B.rows keeper;
-  keeper_faults = B.faults keeper;
+  outside = outside B P keeper provider;
 }
 
-abbrev pub objects : {S K B : Type 0} → StreamOf S → StreamOf K → KeeperOf B → S → K → B → Objects
-objects S K B source sink keeper = record {
+abbrev pub objects : {S K B P : Type 0} → StreamOf S → StreamOf K → KeeperOf B → ProviderOf P → S → K → B → P → Objects
+objects S K B P source sink keeper provider = record {
   left = S.left source;
   read_faults = S.faults source;
   reads = S.reads source;
-  run = run_objects K B sink keeper;
+  run = run_objects K B P sink keeper provider;
 }
 
 -- a read has failed from the first to the second

@@ -1,6 +1,7 @@
 -- Scripts, and the first fault of what is none (this project's own).
-use Rattle.std.specs.Prelude.{◌≡◌, ◌≤◌, ℕ, List, [], ◌∷◌, ◌++◌, map, length, nat_lt, Option, Some, None, Result, Ok}
-use Rattle.std.specs.Prelude.{Err, if◌then◌else◌}
+use Rattle.std.specs.Prelude.{◌≡◌, ◌≤◌, ◌+◌, ℕ, List, [], ◌∷◌, ◌++◌, map, length, nat_lt, Option, Some, None}
+use Rattle.std.specs.Prelude.{Result, Ok, Err, if◌then◌else◌, is_some}
+use Rattle.std.specs.List.{All, filter_map}
 use Rattle.std.specs.Option.{option_map, option_or}
 use Rattle.eac_base.specs.Answers.{◌>>=◌}
 use Rattle.eac_base.specs.Text.{numbered_lines}
@@ -11,25 +12,29 @@ use Rattle.policy_limits.specs.declared.setup_refusal.SetupRefusal.{SetupRefusal
 use Rattle.policy_limits.specs.declared.setup_refusal.SetupRefusal.TheVariants.{Form, Limit as SetupLimit}
 use Rattle.policy_limits.specs.declared.setup_refusal.SetupRefusal.TheVariants.{Twice as SetupTwice}
 use Rattle.policy_limits.specs.declared.setup_refusal.SetupRefusal.TheVariants.{NoMemory as SetupNoMemory}
-use Rattle.eac_cli.specs.LineGrammar.{event_of, rule_number}
-use Rattle.eac_cli.specs.declared.event.Event.{Event}
-use Rattle.eac_cli.specs.declared.event.Event.TheVariants.{Day, Ask}
+use Rattle.eac_net.specs.Steps.{FitsLine, HasDay, later_day}
+use Rattle.eac_net.specs.declared.event.Event.{Event}
+use Rattle.eac_cli.specs.LineGrammar.{event_of}
+use Rattle.eac_cli.specs.LineRules.{rule_number}
+use Rattle.eac_cli.specs.Naming.{event_in}
 use Rattle.eac_cli.specs.declared.event.EventLine.{EventLine}
 use Rattle.eac_cli.specs.declared.line_rule.LineRule.{LineRule}
-use Rattle.eac_cli.specs.declared.line_rule.LineRule.TheVariants.{Grammar, Limit, Twice, TooLate, TooEarly, DayFalls}
-use Rattle.eac_cli.specs.declared.line_rule.LineRule.TheVariants.{TooMany}
+use Rattle.eac_cli.specs.declared.line_rule.LineRule.TheVariants.{Grammar, Limit, Twice, TooLate, TooEarly}
+use Rattle.eac_cli.specs.declared.line_rule.LineRule.TheVariants.{DayFalls, Party, TooMany}
 use Rattle.eac_cli.specs.declared.line_rule.LineRefusal.{LineRefusal}
 use Rattle.eac_cli.specs.declared.line_rule.LineRefusal.TheVariants.{Rule, NoMemory}
+use Rattle.eac_cli.specs.declared.named_event.NamedEvent.{NamedEvent}
+use Rattle.eac_cli.specs.declared.named_event.NamedEvent.TheVariants as named
 use Rattle.eac_cli.specs.declared.script.ScriptRefusal.{ScriptRefusal}
 use Rattle.eac_cli.specs.declared.script.ScriptRefusal.TheVariants.{Fault, NoMemory as ScriptNoMemory}
 
 -- ---- lines
 
 -- What a line says that isn't passed over. A setup line names parties of the lines before it, so its text stays. Any
--- other line is read by itself: to its event, or to the rule that it breaks.
+-- other line is read by itself: to the event that it names, or to the rule that it breaks.
 pub data Said : Type 0 where
   InSetup : (text : List ℕ) → Said
-  Alone : (read : Result Event LineRule) → Said
+  Alone : (read : Result NamedEvent LineRule) → Said
 
 -- A line with its number.
 abbrev pub Line : Type 0
@@ -56,24 +61,41 @@ setup_lines ((n, Alone read) ∷ lines) = setup_lines lines
 abbrev pub setup_of : List Line → Result SetupValue SetupRefusal
 setup_of lines = with_lines (setup_value [] []) (setup_lines lines)
 
--- The events.
-abbrev pub events_of : List Line → List EventLine
-events_of [] = []
-events_of ((n, InSetup text) ∷ lines) = events_of lines
-events_of ((n, Alone (Ok event)) ∷ lines) = record { line = n; event = event } ∷ events_of lines
-events_of ((n, Alone (Err rule)) ∷ lines) = events_of lines
+-- The event lines, as they name their parties.
+abbrev pub named_of : List Line → List (ℕ × NamedEvent)
+named_of [] = []
+named_of ((n, InSetup text) ∷ lines) = named_of lines
+named_of ((n, Alone (Ok event)) ∷ lines) = (n, event) ∷ named_of lines
+named_of ((n, Alone (Err rule)) ∷ lines) = named_of lines
 
--- The day in force after an event.
-abbrev pub later_day : Option ℕ → Event → Option ℕ
-later_day today (Day day) = Some day
-later_day today (Ask reference bytes) = today
+-- An event line in a setup.
+abbrev pub event_line : SetupValue → ℕ × NamedEvent → Option EventLine
+event_line setup line = option_map (λ event. record { line = line.0; event = event }) (event_in setup line.1)
 
--- The day in force after all of these lines.
-abbrev pub day_after : Option ℕ → List Line → Option ℕ
-day_after today [] = today
-day_after today ((n, InSetup text) ∷ lines) = day_after today lines
-day_after today ((n, Alone (Ok event)) ∷ lines) = day_after (later_day today event) lines
-day_after today ((n, Alone (Err rule)) ∷ lines) = day_after today lines
+-- The events that they are in a setup.
+abbrev pub events_of : SetupValue → List Line → List EventLine
+events_of setup lines = filter_map (event_line setup) (named_of lines)
+
+-- The day that an event begins.
+abbrev pub day_begun : NamedEvent → Option ℕ
+day_begun (named.Day day) = Some day
+day_begun (named.Ask reference bytes) = None
+day_begun (named.Found authority) = None
+day_begun (named.Link authority) = None
+day_begun (named.Trust party authority) = None
+day_begun (named.Apply holder authority root) = None
+day_begun (named.Fetch party desk) = None
+day_begun (named.Push desk party) = None
+day_begun (named.Send from to bytes) = None
+day_begun (named.Deliver packet) = None
+
+-- The day in force after all of these event lines.
+abbrev pub last_day : Option ℕ → List (ℕ × NamedEvent) → Option ℕ
+last_day today [] = today
+last_day today (line ∷ lines) = last_day (option_or (day_begun line.1) today) lines
+
+abbrev pub day_after : List Line → Option ℕ
+day_after lines = last_day None (named_of lines)
 
 -- ---- rules of setup lines
 
@@ -98,36 +120,44 @@ setup_rule_behind setup events line = option_or (rule_in_setup (setup >>= λ r. 
 
 -- ---- rules of events
 
--- The rule of order that an event breaks on this day: a day is there before any other event, and no day falls.
-abbrev pub order_rule : Option ℕ → Event → Option LineRule
-order_rule None (Day day) = None
-order_rule None (Ask reference bytes) = Some TooEarly
-order_rule (Some today) (Day day) = if nat_lt day today then Some DayFalls else None
-order_rule (Some today) (Ask reference bytes) = None
+-- The rule of order that an event breaks on this day, where it begins that one: a day is there before any other event,
+-- and no day falls.
+abbrev pub order_rule : (today begun : Option ℕ) → Option LineRule
+order_rule None None = Some TooEarly
+order_rule None (Some day) = None
+order_rule (Some today) None = None
+order_rule (Some today) (Some day) = if nat_lt day today then Some DayFalls else None
+
+-- The parties of an event are those that it wants.
+abbrev pub party_rule : Result SetupValue SetupRefusal → NamedEvent → Option LineRule
+party_rule (Ok setup) event = if is_some (event_in setup event) then None else Some Party
+party_rule (Err refusal) event = None
 
 -- A script has 20,000 events at most.
 abbrev pub count_rule : ℕ → Option LineRule
 count_rule events = if nat_lt events 20000 then None else Some TooMany
 
--- The least rule that an event breaks on this day and behind so many events.
-abbrev pub rule_behind : Option ℕ → ℕ → Event → Option LineRule
-rule_behind today events event = option_or (order_rule today event) (count_rule events)
+-- The least rule that an event breaks in this setup, on this day and behind so many events.
+abbrev pub rule_behind : Result SetupValue SetupRefusal → Option ℕ → ℕ → NamedEvent → Option LineRule
+rule_behind setup today events event =
+    option_or (order_rule today (day_begun event)) (option_or (party_rule setup event) (count_rule events))
 
 -- The least rule that a line breaks that is no setup line.
-abbrev pub event_rule_behind : Option ℕ → ℕ → Result Event LineRule → Option LineRule
-event_rule_behind today events (Ok event) = rule_behind today events event
-event_rule_behind today events (Err rule) = Some rule
+abbrev pub event_rule_behind : Result SetupValue SetupRefusal → Option ℕ → ℕ → Result NamedEvent LineRule
+    → Option LineRule
+event_rule_behind setup today events (Ok event) = rule_behind setup today events event
+event_rule_behind setup today events (Err rule) = Some rule
 
 -- ---- rules of lines
 
 -- The least rule that a line breaks behind this setup, on this day and behind so many events.
 abbrev pub broken_behind : Result SetupValue SetupRefusal → Option ℕ → ℕ → Line → Option LineRule
 broken_behind setup today events (n, InSetup text) = setup_rule_behind setup events (n, text)
-broken_behind setup today events (n, Alone read) = event_rule_behind today events read
+broken_behind setup today events (n, Alone read) = event_rule_behind setup today events read
 
 -- The least rule that a line breaks after the earlier lines.
 abbrev pub broken : List Line → Line → Option LineRule
-broken earlier line = broken_behind (setup_of earlier) (day_after None earlier) (length (events_of earlier)) line
+broken earlier line = broken_behind (setup_of earlier) (day_after earlier) (length (named_of earlier)) line
 
 -- No line breaks a rule, each after the earlier lines and the lines before it.
 abbrev pub Unbroken : List Line → List Line → Type 0
@@ -140,7 +170,7 @@ Unbroken earlier (line ∷ lines) = (broken earlier line ≡ None) × Unbroken (
 pub record IsScript (bytes : List ℕ) (setup : SetupValue) (events : List EventLine) : Type 0 where
   pub fine : Unbroken [] (lines_read bytes)
   pub setup_is : setup_of (lines_read bytes) ≡ Ok setup
-  pub events_are : events ≡ events_of (lines_read bytes)
+  pub events_are : events ≡ events_of setup (lines_read bytes)
 
 -- The first line that breaks a rule is the one of this number, and this is the number of the least rule that it breaks.
 pub record IsFault (bytes : List ℕ) (line rule : ℕ) : Type 0 where
@@ -167,8 +197,9 @@ pub record Takes (line : Line) (setup setup' : SetupValue) (today today' : Optio
     : Type 0 where
   pub fine : broken_behind (Ok setup) today (length events) line ≡ None
   pub setup_is : with_lines setup (setup_lines (line ∷ [])) ≡ Ok setup'
-  pub day_is : today' ≡ day_after today (line ∷ [])
-  pub events_are : events' ≡ events ++ events_of (line ∷ [])
+  pub day_is : today' ≡ last_day today (named_of (line ∷ []))
+  pub events_are : events' ≡ events ++ events_of setup (line ∷ [])
+  pub count_is : length events' ≡ length events + length (named_of (line ∷ []))
 
 -- A line that is refused breaks the rule. Want of memory says nothing of it.
 abbrev pub Breaks : LineRefusal → Option LineRule → Type 0
@@ -177,14 +208,22 @@ Breaks NoMemory broken = Unit {0}
 
 -- ---- what every script keeps
 
--- An event that is no day has a day before it, and a day isn't before the day in force.
-abbrev pub IsInPlace : Option ℕ → Event → Type 0
-IsInPlace None (Day day) = Unit {0}
-IsInPlace None (Ask reference bytes) = ⊥
-IsInPlace (Some today) (Day day) = today ≤ day
-IsInPlace (Some today) (Ask reference bytes) = Unit {0}
+-- the second day isn't before the first
+abbrev pub IsNotBefore : Option ℕ → Option ℕ → Type 0
+IsNotBefore None day' = Unit {0}
+IsNotBefore (Some day) None = ⊥
+IsNotBefore (Some day) (Some day') = day ≤ day'
+
+-- An event that wants a day has one before it, and the day in force never falls.
+pub record IsInPlace (today : Option ℕ) (event : Event) : Type 0 where
+  pub day : HasDay today event
+  pub later : IsNotBefore today (later_day today event)
 
 -- Each event is in its place after those before it.
 abbrev pub InOrder : Option ℕ → List EventLine → Type 0
 InOrder today [] = Unit {0}
 InOrder today (line ∷ lines) = IsInPlace today line.event × InOrder (later_day today line.event) lines
+
+-- Each event is one between parties of the setup that have their parts, and its bytes are within the limits.
+abbrev pub AllFit : SetupValue → List EventLine → Type 0
+AllFit setup lines = All (λ line. FitsLine setup line.event) lines

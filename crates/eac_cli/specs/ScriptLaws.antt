@@ -2,7 +2,7 @@
 use Rattle.std.specs.Prelude.{◌≡◌, ◌≤◌, ℕ, List, [], ◌++◌, length, None, Ok}
 use Rattle.policy_limits.specs.Setup.{SetupValue}
 use Rattle.policy_limits.specs.SetupText.{read_setup}
-use Rattle.eac_cli.specs.Script.{Line, lines_read, setup_lines, events_of, IsScript, IsFault, InOrder}
+use Rattle.eac_cli.specs.Script.{Line, lines_read, setup_lines, named_of, IsScript, IsFault, InOrder, AllFit}
 use Rattle.eac_cli.specs.declared.event.EventLine.{EventLine}
 
 -- A script has no fault.
@@ -34,7 +34,7 @@ pub record IsInTwoParts (lines : List Line) : Type 0 where
   pub front : List Line
   pub back : List Line
   pub cut : lines ≡ front ++ back
-  pub no_event : events_of front ≡ []
+  pub no_event : named_of front ≡ []
   pub no_setup : setup_lines back ≡ []
 
 -- All setup lines of a script stand before its events.
@@ -53,6 +53,11 @@ SetupsAreScripts =
 abbrev pub ScriptsAreInOrder : Type 0
 ScriptsAreInOrder =
     (bytes : List ℕ) (setup : SetupValue) (events : List EventLine) → IsScript bytes setup events → InOrder None events
+
+-- Each event of a script is one between parties of its setup that have their parts.
+abbrev pub ScriptsFit : Type 0
+ScriptsFit =
+    (bytes : List ℕ) (setup : SetupValue) (events : List EventLine) → IsScript bytes setup events → AllFit setup events
 
 -- A script has 20,000 events at most.
 abbrev pub ScriptsAreShort : Type 0

@@ -1,72 +1,92 @@
--- One event as the program runs it: from the objects before it to those after it (this project's own).
-use Rattle.std.specs.Prelude.{◌≡◌, ℕ, ◌≤◌, List, [], ◌∷◌, ◌++◌, length, Option, IsSome, Result, Ok, Err}
+-- One event line as the program runs it (this project's own).
+use Rattle.std.specs.Prelude.{◌≡◌, ◌⊎◌, ℕ, List, [], ◌∷◌, ◌++◌, map, codes}
+use Rattle.std.specs.Prelude.{Bool, true, false, Option, None, IsSome, Result, Ok, Err, if◌then◌else◌}
+use Rattle.std.specs.Fmt.{decimal}
 use Rattle.std.specs.Io.KnownBytes.{Appends}
 use Rattle.eac_base.specs.Causes.{AppendsFront}
-use Rattle.eac_base.specs.Telling.{Told}
-use Rattle.keeper.specs.declared.rows.Row.{Row}
-use Rattle.keeper.specs.declared.keeping.Keeper.{Ghosts as KeeperOf}
-use Rattle.eac_cli.specs.declared.event.Event.{Event}
-use Rattle.eac_cli.specs.declared.event.Event.TheVariants.{Day, Ask}
+use Rattle.policy_limits.specs.Setup.{SetupValue}
+use Rattle.eac_net.specs.Items.{Ran}
+use Rattle.eac_net.specs.Journal.{line_text}
+use Rattle.eac_net.specs.Objects.{Outside}
+use Rattle.eac_net.specs.Steps.{FitsLine, HasDay, later_day, Steps}
+use Rattle.eac_net.specs.declared.event.Event.{Event}
+use Rattle.eac_net.specs.declared.event.Event.TheVariants as events
+use Rattle.eac_net.specs.declared.world.World.{World}
 use Rattle.eac_cli.specs.declared.event.EventLine.{EventLine}
 use Rattle.eac_cli.specs.declared.running.Stop.{Stop}
 use Rattle.eac_cli.specs.declared.running.Stop.TheVariants.{WriteFault, NoMemory}
-use Rattle.eac_cli.specs.Script.{later_day}
 use Rattle.eac_cli.specs.Objects.{RunObjects, WriteFailed}
-use Rattle.eac_cli.specs.State.{State}
-use Rattle.eac_cli.specs.Turn.{Answer, Memory, Turn, Standing, MayAnswer, IsEnded}
-use Rattle.eac_cli.specs.Journal.{answer_text, line_text}
 
--- The event may be run on this day: a day stands unless it is a `day`, and its bytes are within the limit of its line.
-abbrev pub MayRun : Option ℕ → Event → Type 0
-MayRun today (Day day) = Unit {0}
-MayRun today (Ask reference bytes) = IsSome today × (length bytes ≤ 4096)
+-- ---- lines
+
+-- the events of lines, and their numbers
+abbrev pub line_events : List EventLine → List Event
+line_events lines = map (λ (line : EventLine). line.event) lines
+
+abbrev pub line_numbers : List EventLine → List ℕ
+line_numbers lines = map (λ (line : EventLine). line.line) lines
 
 -- each line may be run after those before it
-abbrev pub MayRunAll : Option ℕ → List EventLine → Type 0
-MayRunAll today [] = Unit {0}
-MayRunAll today (line ∷ lines) = MayRun today line.event × MayRunAll (later_day today line.event) lines
+abbrev pub MayRunAll : SetupValue → Option ℕ → List EventLine → Type 0
+MayRunAll setup today [] = Unit {0}
+MayRunAll setup today (line ∷ lines) =
+    HasDay today line.event × FitsLine setup line.event × MayRunAll setup (later_day today line.event) lines
 
--- What is known at one moment of a run: the day in force, the keeper's rows where it tells them, and how often it has
--- failed.
-pub record Moment : Type 0 where
-  pub day : Option ℕ
-  pub rows : Option (List Row)
-  pub keeper : ℕ
+-- ---- texts
 
-abbrev pub moment : {B : Type 0} → KeeperOf B → Option ℕ → B → Moment
-moment B day keeper = record { day = day; rows = B.rows keeper; keeper = B.faults keeper }
+-- what a line begins with
+abbrev pub line_head : ℕ → List ℕ
+line_head number = decimal number ++ codes ": "
 
-abbrev pub standing_of : Moment → Standing
-standing_of m = record { day = m.day; keeper = m.keeper }
+-- every event but a `day` has a line
+abbrev pub has_line : Event → Bool
+has_line (events.Day day) = false
+has_line (events.Ask reference bytes) = true
+has_line (events.Found authority) = true
+has_line (events.Link authority) = true
+has_line (events.Trust party authority) = true
+has_line (events.Apply holder authority root) = true
+has_line (events.Fetch party desk) = true
+has_line (events.Push desk party) = true
+has_line (events.Send from to bytes) = true
+has_line (events.Deliver packet) = true
 
--- the state is that of a moment with these rows
-pub record IsAt (m : Moment) (rows : List Row) (s : State) : Type 0 where
-  pub day_is : s.day ≡ m.day
-  pub rows_are : s.rows ≡ rows
-  pub keeper_is : s.keeper ≡ m.keeper
+abbrev pub head_of : EventLine → List ℕ
+head_of line = if has_line line.event then line_head line.line else []
 
--- The event was answered so. Where the rows are told afterwards, each state of the moment before leads by one turn to
--- one of the moment after.
-pub record Steps (event : Event) (answer : Answer) (m m' : Moment) : Type 0 where
-  pub answered : MayAnswer (standing_of m) event answer (standing_of m')
-  pub turn : Told m.rows m'.rows (λ r r'. (s : State) → IsAt m r s → (t : State) × Turn s event answer t × IsAt m' r' t)
+-- what ends a line that is there
+abbrev pub feed_of : List ℕ → List ℕ
+feed_of [] = []
+feed_of (b ∷ bytes) = 10 ∷ []
 
--- What a step appended to its line: the text of the answer, or a front of it where memory is wanting.
-abbrev pub Said : {E : Type 0} → Result (Unit {0}) E → Answer → List ℕ → List ℕ → Type 0
-Said (Ok u) answer old new = IsEnded answer × (new ≡ old ++ answer_text answer)
-Said (Err e) answer old new = (answer ≡ Memory) × (new ≡ old)
+-- ---- one line
 
--- the journal line of an answer, or none where memory is wanting
-abbrev pub Lined : {E : Type 0} → ℕ → Result (List ℕ) E → Answer → Type 0
-Lined number (Ok text) answer = IsEnded answer × (text ≡ line_text number answer)
-Lined number (Err e) answer = answer ≡ Memory
+-- The line's event ran as this item.
+pub record RunsAs (setup : SetupValue) (line : EventLine) (w w' : World) (o o' : Outside) (i : Ran) : Type 0 where
+  pub event : i.event ≡ line.event
+  pub step : Steps setup i w w' o o'
 
--- How the writing of an answer's line ended: it went out; or a front of it which is not all, and the count of failed
--- writes rose; or memory was wanting, and nothing was written.
-abbrev pub Sent : {U : Type 0} → ℕ → Result U Stop → Answer → RunObjects → RunObjects → Type 0
-Sent number (Ok u) answer before after =
-    IsEnded answer × Appends before.taken after.taken (line_text number answer) × (after.lost ≡ before.lost)
-Sent number (Err WriteFault) answer before after =
-    IsEnded answer × AppendsFront before.taken after.taken (line_text number answer) × WriteFailed before after
-Sent number (Err NoMemory) answer before after =
-    (answer ≡ Memory) × (after.taken ≡ before.taken) × (after.lost ≡ before.lost)
+-- Memory was wanting: before the event, and nothing was run; or in it.
+abbrev pub Breaks : SetupValue → EventLine → World → World → Outside → Outside → Type 0
+Breaks setup line w w' o o' =
+    ((w' ≡ w) × (o' ≡ o)) ⊎ ((i : Ran) × RunsAs setup line w w' o o' i × (i.answer ≡ None))
+
+-- how a line's text came about: that of its answer, but for the line feed; or memory was wanting
+abbrev pub Lined : {E : Type 0} → SetupValue → EventLine → Result (List ℕ) E → World → World → Outside → Outside
+    → Type 0
+Lined setup line (Ok text) w w' o o' =
+    (i : Ran) × RunsAs setup line w w' o o' i × IsSome i.answer × (text ++ feed_of text ≡ line_text line.line i.answer)
+Lined setup line (Err e) w w' o o' = Breaks setup line w w' o o'
+
+-- How the running of a line ended: its journal line went out; or a front of it which is not all, and the count of
+-- failed writes rose; or memory was wanting, and nothing was written.
+abbrev pub Sent : {U : Type 0} → SetupValue → EventLine → Result U Stop → World → World → RunObjects → RunObjects
+    → Type 0
+Sent setup line (Ok u) w w' before after =
+    (i : Ran) × RunsAs setup line w w' before.outside after.outside i × IsSome i.answer
+    × Appends before.taken after.taken (line_text line.line i.answer) × (after.lost ≡ before.lost)
+Sent setup line (Err WriteFault) w w' before after =
+    (i : Ran) × RunsAs setup line w w' before.outside after.outside i
+    × AppendsFront before.taken after.taken (line_text line.line i.answer) × WriteFailed before after
+Sent setup line (Err NoMemory) w w' before after =
+    Breaks setup line w w' before.outside after.outside × (after.taken ≡ before.taken) × (after.lost ≡ before.lost)

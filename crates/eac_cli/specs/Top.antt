@@ -1,18 +1,15 @@
 -- What the top call did, by its status (this project's own).
-use Rattle.std.specs.Prelude.{◌≡◌, ◌≢◌, ◌⊎◌, ℕ, ◌+◌, ◌<◌, ◌≤◌, List, [], ◌∷◌, ◌++◌, length, map, take, codes, Option}
-use Rattle.std.specs.Prelude.{Some, None, IfSome, slice_get, if◌then◌else◌}
+use Rattle.std.specs.Prelude.{◌≡◌, ◌≢◌, ◌⊎◌, ℕ, ◌+◌, ◌<◌, ◌≤◌, List, [], ◌∷◌, ◌++◌, length, take, codes, Option}
+use Rattle.std.specs.Prelude.{Some, None, IfSome, IsSome, slice_get, if◌then◌else◌}
+use Rattle.std.specs.List.{All}
 use Rattle.std.specs.Io.KnownBytes.{Consumes, IsAtEnd, Appends}
 use Rattle.std.specs.Str.{bytes_eq}
 use Rattle.eac_base.specs.Causes.{Rose, AppendsFront}
 use Rattle.eac_base.specs.Streaming.{TurnsAtMost}
-use Rattle.eac_base.specs.Telling.{Told}
-use Rattle.keeper.specs.declared.rows.Row.{Row}
-use Rattle.issue_core.specs.declared.rule.Rule.{Rule}
-use Rattle.ledger.specs.Ledger.{Delivery, entries}
-use Rattle.issue_core.specs.Registering.Desk.{Asked, RegisterFault, Deliveries, register, RegisterStory, entries_of, rows_of_ledger}
 use Rattle.policy_limits.specs.Setup.{SetupValue}
-use Rattle.eac_cli.specs.declared.event.Event.{Event}
-use Rattle.eac_cli.specs.declared.event.Event.TheVariants.{Day, Ask}
+use Rattle.eac_net.specs.Journal.{journal, line_text}
+use Rattle.eac_net.specs.Run.{RunOf}
+use Rattle.eac_net.specs.declared.answer.Answer.{Answer}
 use Rattle.eac_cli.specs.declared.event.EventLine.{EventLine}
 use Rattle.eac_cli.specs.declared.running.Stop.{Stop}
 use Rattle.eac_cli.specs.declared.running.Stop.TheVariants.{WriteFault as StopWriteFault, NoMemory as StopNoMemory}
@@ -22,11 +19,9 @@ use Rattle.eac_cli.specs.declared.tool.Status.{Status}
 use Rattle.eac_cli.specs.declared.tool.Status.TheVariants.{Done, Usage, ScriptFault, TooLong, ReadFault, WriteFault}
 use Rattle.eac_cli.specs.declared.tool.Status.TheVariants.{NoMemory}
 use Rattle.eac_cli.specs.Objects.{RunObjects, Objects, ReadFailed, WriteFailed}
-use Rattle.eac_cli.specs.Script.{later_day, IsScript, IsFault}
+use Rattle.eac_cli.specs.Script.{IsScript, IsFault}
 use Rattle.eac_cli.specs.Show.{show_text}
-use Rattle.eac_cli.specs.State.{State, first_state}
-use Rattle.eac_cli.specs.Turn.{asked_on, Answer, Memory, History, MayAnswers, AreEnded}
-use Rattle.eac_cli.specs.Journal.{journal, line_text, events}
+use Rattle.eac_cli.specs.Steps.{line_events, line_numbers}
 
 -- ---- commands
 
@@ -39,54 +34,16 @@ abbrev pub command_of : List (List ℕ) → Option Command
 command_of (word ∷ []) = command_named word
 command_of other = None
 
--- ---- a run of event lines
-
--- what an event asks of the register on this day
-abbrev pub asks_of : Option ℕ → Event → List Asked
-asks_of today (Day day) = []
-asks_of None (Ask reference bytes) = []
-asks_of (Some day) (Ask reference bytes) = asked_on day reference bytes ∷ []
-
--- what the `ask` lines ask, each on the day in force
-abbrev pub asks : Option ℕ → List Event → List Asked
-asks today [] = []
-asks today (event ∷ events) = asks_of today event ++ asks (later_day today event) events
-
--- the cases of deliveries
-abbrev pub cases : Deliveries → List Asked
-cases deliveries = map (λ (d : Delivery Asked (List ℕ) Rule RegisterFault). d.case_of) deliveries
-
--- One state to which the history of these lines leads from the rows before. Its deliveries are what the `ask` lines
--- ask, they are one story after the ledger of the rows before, and their ledger is what was added to the rows.
-pub record RunTells (before after : List Row) (first last : ℕ) (lines : List EventLine) (answers : List Answer)
-    : Type 0 where
-  pub end : State
-  pub history : History (first_state before first) (events lines) answers end
-  pub rows : end.rows ≡ after
-  pub keeper : end.keeper ≡ last
-  pub asked : cases end.register ≡ asks None (events lines)
-  pub story : RegisterStory (entries_of before) end.register
-  pub ledger : after ≡ before ++ rows_of_ledger (entries register end.register)
-
--- These lines were run in order from no day on, with these answers. Whatever the keeper tells, each is one that may
--- come; where the rows are told afterwards, they are the answers of a history.
-pub record RunOf (before after : RunObjects) (lines : List EventLine) (answers : List Answer) : Type 0 where
-  pub day : Option ℕ
-  pub answered : MayAnswers (record { day = None; keeper = before.keeper_faults }) (events lines) answers
-      (record { day = day; keeper = after.keeper_faults })
-  pub told : Told before.rows after.rows
-      (λ r r'. RunTells r r' before.keeper_faults after.keeper_faults lines answers)
-
 -- ---- by status
 
--- What the sink took: these journal lines, and of the line of the answer a front which is not all of it, since a write
--- failed; or these lines alone, since memory was wanting, and no write failed.
-abbrev pub SentUntil : RunObjects → RunObjects → Stop → List ℕ → ℕ → Answer → Type 0
-SentUntil before after StopWriteFault lines number answer =
-    (n : ℕ) × (n < length (line_text number answer))
+-- What the sink took: these journal lines, and of the line of the last answer a front which is not all of it, since a
+-- write failed; or these lines alone, since memory was wanting in the last event or before it, and no write failed.
+abbrev pub SentUntil : RunObjects → RunObjects → Stop → List ℕ → ℕ → List (Option Answer) → Type 0
+SentUntil before after StopWriteFault lines number last =
+    (answer : Option Answer) × (last ≡ answer ∷ []) × (n : ℕ) × (n < length (line_text number answer))
     × Appends before.taken after.taken (lines ++ take n (line_text number answer)) × WriteFailed before after
-SentUntil before after StopNoMemory lines number answer =
-    (answer ≡ Memory) × Appends before.taken after.taken lines × (after.lost ≡ before.lost)
+SentUntil before after StopNoMemory lines number last =
+    ((last ≡ []) ⊎ (last ≡ None ∷ [])) × Appends before.taken after.taken lines × (after.lost ≡ before.lost)
 
 -- the most bytes that are read
 abbrev pub most_input : ℕ
@@ -103,49 +60,54 @@ pub record WereRead (left left' : Option (List ℕ)) (reads reads' : Option ℕ)
 abbrev pub WasRead : Option (List ℕ) → List ℕ → Type 0
 WasRead left bytes = IsAtEnd left × (length bytes ≤ most_input)
 
--- The bytes are a script that was read whole, and its lines were run so.
-pub record Ran (left : Option (List ℕ)) (bytes : List ℕ) (Did : List EventLine → Type 0) : Type 0 where
+-- The bytes are a script that was read whole, and its lines were run so in its setup.
+pub record Ran (left : Option (List ℕ)) (bytes : List ℕ) (Did : SetupValue → List EventLine → Type 0) : Type 0 where
   pub read : WasRead left bytes
   pub setup : SetupValue
   pub lines : List EventLine
   pub script : IsScript bytes setup lines
-  pub did : Did lines
+  pub did : Did setup lines
 
--- what a call did with sink and keeper
+-- What a run did. Its events were run from no day and no packet on.
+module _ (setup : SetupValue) (before after : RunObjects) where
+  -- All lines were run, and the journal of their answers went out. No write failed.
+  pub record Whole (lines : List EventLine) (done : ℕ) : Type 0 where
+    pub answers : List (Option Answer)
+    pub all : done ≡ length lines
+    pub ended : All IsSome answers
+    pub run : RunOf setup before.outside after.outside (line_events lines) answers
+    pub sent : Appends before.taken after.taken (journal (line_numbers lines) answers)
+    pub quiet : after.lost ≡ before.lost
+
+  -- The first lines were run, and their journal lines went out whole. The run stopped at the next line: in its event,
+  -- which is the last one then, or with its journal line; or before its event.
+  pub record Stopped (stop : Stop) (lines : List EventLine) (done : ℕ) : Type 0 where
+    pub answers : List (Option Answer)
+    pub line : EventLine
+    pub last : List (Option Answer)
+    pub next : slice_get lines done ≡ Some line
+    pub count : length answers ≡ done
+    pub ended : All IsSome answers
+    pub run : RunOf setup before.outside after.outside (line_events (take (done + length last) lines)) (answers ++ last)
+    pub sent : SentUntil before after stop (journal (line_numbers (take done lines)) answers) line.line last
+
+-- what a call did with sink, keeper and provider
 module _ (before after : RunObjects) where
   -- nothing was run and nothing was written
   abbrev pub Nothing : ℕ → Type 0
   Nothing done = (done ≡ 0) × (after ≡ before)
 
-  -- All lines were run, and the journal of their answers went out. No write failed.
-  pub record Whole (lines : List EventLine) (done : ℕ) : Type 0 where
-    pub answers : List Answer
-    pub all : done ≡ length lines
-    pub ended : AreEnded answers
-    pub run : RunOf before after lines answers
-    pub sent : Appends before.taken after.taken (journal lines answers)
-    pub quiet : after.lost ≡ before.lost
-
-  -- The first lines were run, and their journal lines went out whole. Then the next line was run, and the run stopped.
-  pub record Stopped (stop : Stop) (lines : List EventLine) (done : ℕ) : Type 0 where
-    pub answers : List Answer
-    pub line : EventLine
-    pub answer : Answer
-    pub next : slice_get lines done ≡ Some line
-    pub count : length answers ≡ done
-    pub ended : AreEnded answers
-    pub run : RunOf before after (take done lines ++ line ∷ []) (answers ++ answer ∷ [])
-    pub sent : SentUntil before after stop (journal (take done lines) answers) line.line answer
-
   -- what stands for each status, where the source has this left and these bytes were read
   abbrev pub Claim : Option (List ℕ) → Status → ℕ → List ℕ → Type 0
-  Claim left Done done bytes = Ran left bytes (λ lines. Whole lines done)
+  Claim left Done done bytes = Ran left bytes (λ setup lines. Whole setup before after lines done)
   Claim left Usage done bytes = ⊥
   Claim left (ScriptFault line rule) done bytes = WasRead left bytes × IsFault bytes line rule × Nothing done
   Claim left TooLong done bytes = (most_input < length bytes) × Nothing done
   Claim left ReadFault done bytes = Nothing done
-  Claim left WriteFault done bytes = Ran left bytes (λ lines. Stopped StopWriteFault lines done)
-  Claim left NoMemory done bytes = Nothing done ⊎ Ran left bytes (λ lines. Stopped StopNoMemory lines done)
+  Claim left WriteFault done bytes =
+      Ran left bytes (λ setup lines. Stopped setup before after StopWriteFault lines done)
+  Claim left NoMemory done bytes =
+      Nothing done ⊎ Ran left bytes (λ setup lines. Stopped setup before after StopNoMemory lines done)
 
 -- ---- `show`
 
@@ -210,7 +172,7 @@ pub record ShowCall (before after : Objects) (status : Status) : Type 0 where
 abbrev pub RoseFor : (told status : Status) → (before now : ℕ) → Type 0
 RoseFor told status before now = (status ≡ told → Rose before now) × (status ≢ told → now ≡ before)
 
--- Nothing is asked of sink and keeper under these statuses: the input isn't run.
+-- Nothing is asked of sink, keeper and provider under these statuses: the input isn't run.
 abbrev pub RunsNothing : Status → Type 0
 RunsNothing Usage = Unit {0}
 RunsNothing (ScriptFault line rule) = Unit {0}

@@ -2,20 +2,10 @@
 ghost use Rattle.std.specs.Prelude.{◌≡◌, List, [], ◌∷◌, ◌++◌, length, slice_get, OnOk, OnErr};
 ghost use Rattle.std.specs.Option.{option_copied};
 
-use cv_dates::Day;
-use eac_base::{NoMemory, Octets};
-use holder_reference::Reference;
+use eac_base::NoMemory;
+use eac_net::Event;
 use std::alloc::Global;
 use std::marker::Model;
-
-/// What one line of a script asks for.
-#[derive(Debug, Drop)]
-pub enum Event {
-    /// It is this day from now on.
-    Day { day: Day },
-    /// The plain register is asked for the reference with these bytes, 1 to 4,096 of them.
-    Ask { reference: Reference, bytes: Octets },
-}
 
 /// An event and the number of its line, the first line of the script being line 1.
 #[derive(Debug, Drop)]

@@ -1,88 +1,55 @@
-// One line of a script by itself.
-ghost use Rattle.std.specs.Prelude.{Some};
+// One line of a script by itself. A family of events has its readers in a file of their own.
 ghost use Rattle.std.specs.Option.{option_copied};
 ghost use Rattle.eac_base.specs.Answers.{Answers};
 ghost use Rattle.plain_text.specs.Lines.{pieces_left};
-ghost use Rattle.eac_cli.specs.LineGrammar.{rule_of, day_of, ask_of, ask_with, day_said, ask_said, event_of};
+ghost use Rattle.eac_cli.specs.LineGrammar.{event_of, said_as};
+ghost use Rattle.eac_cli.specs.LineRules.{rule_of};
 
-use crate::event::Event;
+mod acting;
+mod asking;
+mod days;
+mod packets;
+mod words;
+
+use crate::event_kind::{EventKind, kind_of};
 use crate::line_rule::{LineRefusal, LineRule};
-use cv_dates::day_from_text;
-use eac_base::{Octets, is_same};
-use holder_reference::{Reference, read_reference};
-use plain_text::hexadecimal::read_bytes;
-use plain_text::words::{are_words, cut, one_word, two_words};
+use crate::named_event::NamedEvent;
+use acting::{read_apply, read_found, read_link, read_trust};
+use asking::read_ask;
+use days::read_day;
+use packets::{read_deliver, read_fetch, read_push, read_send};
+use plain_text::words::{are_words, cut};
 use std::alloc::Global;
 
-/// The most bytes that HEX may say.
-const MOST_BYTES: usize = 4096;
-
-/// Reads DATE.
-fn day_of(date: &[u8]) -> Result<Event, LineRule>
-    ensures { Answers (λ event. event) (λ rule. Some rule) result (day_of date.now) }
+/// Reads what stands behind the first word.
+fn read_as(alloc: Global, kind: EventKind, rest: Option<&[u8]>) -> Result<NamedEvent, LineRefusal>
+    ensures { Answers (λ event. event) rule_of result (said_as kind (pieces_left (option_copied rest.entry))) }
 {
-    match day_from_text(date) {
-        Ok(day) => Ok(Event::Day { day }),
-        Err(_) => Err(LineRule::Grammar),
+    match kind {
+        EventKind::Day => Ok(read_day(rest)?),
+        EventKind::Ask => read_ask(alloc, rest),
+        EventKind::Found => Ok(read_found(rest)?),
+        EventKind::Link => Ok(read_link(rest)?),
+        EventKind::Trust => Ok(read_trust(rest)?),
+        EventKind::Apply => Ok(read_apply(rest)?),
+        EventKind::Fetch => Ok(read_fetch(rest)?),
+        EventKind::Push => Ok(read_push(rest)?),
+        EventKind::Send => read_send(alloc, rest),
+        EventKind::Deliver => Ok(read_deliver(rest)?),
     }
 }
 
-/// The event of a reference with these bytes.
-fn ask_with(reference: Reference, bytes: Octets) -> Result<Event, LineRule>
-    ensures { Answers (λ event. event) (λ rule. Some rule) result (ask_with reference bytes) }
-{
-    if MOST_BYTES < bytes.len() {
-        return Err(LineRule::Limit);
-    }
-    Ok(Event::Ask { reference, bytes })
-}
-
-/// Reads REFERENCE and HEX.
-fn ask_of(alloc: Global, reference: &[u8], hex: &[u8]) -> Result<Event, LineRefusal>
-    ensures { Answers (λ event. event) rule_of result (ask_of reference.now hex.now) }
-{
-    let Ok(reference) = read_reference(reference) else {
-        return Err(LineRefusal::Rule(LineRule::Grammar));
-    };
-    let Some(bytes) = read_bytes(alloc, hex)? else {
-        return Err(LineRefusal::Rule(LineRule::Grammar));
-    };
-    Ok(ask_with(reference, bytes)?)
-}
-
-/// Reads what stands behind the word `day`.
-fn read_day(rest: Option<&[u8]>) -> Result<Event, LineRule>
-    ensures { Answers (λ event. event) (λ rule. Some rule) result (day_said (pieces_left (option_copied rest.entry))) }
-{
-    match one_word(rest) {
-        Some(date) => day_of(date),
-        None => Err(LineRule::Grammar),
-    }
-}
-
-/// Reads what stands behind the word `ask`.
-fn read_ask(alloc: Global, rest: Option<&[u8]>) -> Result<Event, LineRefusal>
-    ensures { Answers (λ event. event) rule_of result (ask_said (pieces_left (option_copied rest.entry))) }
-{
-    match two_words(rest) {
-        Some((reference, hex)) => ask_of(alloc, reference, hex),
-        None => Err(LineRefusal::Rule(LineRule::Grammar)),
-    }
-}
-
-/// Reads one event line. It is refused by rule 1 where it isn't in the grammar, and by rule 2 where HEX says too much.
-pub fn read_event(alloc: Global, line: &[u8]) -> Result<Event, LineRefusal>
+/// Reads one event line. It is refused by rule 1 where it isn't in the grammar, and by rule 2 where HEX says too much
+/// or N is beyond its limits.
+pub fn read_event(alloc: Global, line: &[u8]) -> Result<NamedEvent, LineRefusal>
     ensures { Answers (λ event. event) rule_of result (event_of line.now) }
 {
     if !are_words(line) {
         return Err(LineRefusal::Rule(LineRule::Grammar));
     }
-    let (kind, rest) = cut(line);
-    if is_same(kind, b"day") {
-        return Ok(read_day(rest)?);
+    let (word, rest) = cut(line);
+    match kind_of(word) {
+        Some(kind) => read_as(alloc, kind, rest),
+        None => Err(LineRefusal::Rule(LineRule::Grammar)),
     }
-    if is_same(kind, b"ask") {
-        return read_ask(alloc, rest);
-    }
-    Err(LineRefusal::Rule(LineRule::Grammar))
 }

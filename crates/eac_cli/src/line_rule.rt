@@ -1,6 +1,6 @@
 // Why a line of a script is refused.
 ghost use Rattle.std.specs.Prelude.{◌≡◌};
-ghost use Rattle.eac_cli.specs.LineGrammar.{rule_number};
+ghost use Rattle.eac_cli.specs.LineRules.{rule_number};
 
 use eac_base::NoMemory;
 
@@ -10,8 +10,8 @@ pub enum LineRule {
     /// The line isn't in the grammar, or a setup line names a party that isn't in an earlier line or can't have that
     /// part.
     Grammar,
-    /// HEX says more than 4,096 bytes; days or a live limit are out of their limits, or it is the thousand-and-first
-    /// party.
+    /// HEX says more than 4,096 bytes, or N isn't 1 to 1,000,000; days or a live limit are out of their limits, or it
+    /// is the thousand-and-first party.
     Limit,
     /// The holder is a party already, or registered at the desk already.
     Twice,
@@ -21,6 +21,8 @@ pub enum LineRule {
     TooEarly,
     /// The day is before the day in force.
     DayFalls,
+    /// A party of the event isn't in the setup, or can't have that part.
+    Party,
     /// There are 20,000 event lines before it.
     TooMany,
 }
@@ -37,6 +39,7 @@ impl LineRule {
             LineRule::TooLate => 4,
             LineRule::TooEarly => 4,
             LineRule::DayFalls => 5,
+            LineRule::Party => 6,
             LineRule::TooMany => 7,
         }
     }

@@ -1,13 +1,18 @@
-//! The program `eac`: the plain register, run from a script, and the showing of card-verifiable certificates.
+//! The program `eac`: the parties of a script that found, link, ask for certificates and send each other packets, and
+//! the showing of card-verifiable certificates.
 //!
-//! `main` makes the real outside (standard input and output, an empty keeper), calls [`tool::run_tool`] and ends with
-//! the number of its status. All that the program promises stands on that call.
+//! `main` makes the real outside (standard input and output, an empty keeper, a provider that has signed nothing),
+//! calls [`tool::run_tool`] and ends with the number of its status. All that the program promises stands on that call.
 #![tactic(auto)]
 
 mod event;
+mod event_kind;
 mod journal;
 mod line_grammar;
 mod line_rule;
+mod named_event;
+mod naming;
+mod parts;
 mod running;
 mod script;
 mod script_laws;
@@ -15,10 +20,10 @@ mod show;
 #[cfg(test)]
 mod tests;
 mod tool;
-mod world;
 
-use eac_base::{StdSink, StdSource, Words};
+use eac_base::{FailPlan, StdSink, StdSource, Words};
 use keeper::{KeeperPlan, MemoryKeeper};
+use signature_provider::TableProvider;
 use std::process::ExitCode;
 use std::rt::Env;
 use std::{env, io};
@@ -49,7 +54,16 @@ fn main(rt: HostRuntime) -> ExitCode {
             let mut source = StdSource::new(rt.reader());
             let mut sink = StdSink::new(io::writer(&rt));
             let mut keeper = MemoryKeeper::new(alloc, KeeperPlan::new(alloc));
-            run_tool(alloc, &words, &mut source, &mut sink, &mut keeper).status
+            let mut provider = TableProvider::new(alloc, FailPlan::new(alloc));
+            run_tool(
+                alloc,
+                &words,
+                &mut source,
+                &mut sink,
+                &mut keeper,
+                &mut provider,
+            )
+            .status
         }
         Err(status) => status,
     };

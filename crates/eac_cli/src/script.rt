@@ -1,14 +1,17 @@
 // A whole script.
-ghost use Rattle.std.specs.Prelude.{◌≡◌, [], ◌∷◌, ◌++◌, length, None, Ok, IfOk, IfErr, OnOk};
+ghost use Rattle.std.specs.Prelude.{◌≡◌, ◌+◌, [], ◌∷◌, ◌++◌, length, None, Ok, IfOk, IfErr, OnOk};
 ghost use Rattle.policy_limits.specs.SetupText.{with_line};
-ghost use Rattle.eac_cli.specs.LineGrammar.{event_of, rule_of};
-ghost use Rattle.eac_cli.specs.Script.{IsScript, FaultOf, Alone, line_of, events_of, later_day, day_after};
-ghost use Rattle.eac_cli.specs.Script.{setup_rule, late_rule, setup_rule_behind, order_rule, count_rule, rule_behind};
+ghost use Rattle.eac_cli.specs.LineGrammar.{event_of};
+ghost use Rattle.eac_cli.specs.LineRules.{rule_of};
+ghost use Rattle.eac_cli.specs.Script.{IsScript, FaultOf, Alone, line_of, named_of, events_of, day_begun, last_day};
+ghost use Rattle.eac_cli.specs.Script.{setup_rule, late_rule, setup_rule_behind, order_rule, count_rule};
 ghost use Rattle.eac_cli.specs.Script.{event_rule_behind, broken_behind, refused_at, Takes, Breaks};
 
-use crate::event::{Event, EventLine, EventLines};
+use crate::event::{EventLine, EventLines};
 use crate::line_grammar::read_event;
 use crate::line_rule::{LineRefusal, LineRule};
+use crate::named_event::NamedEvent;
+use crate::naming::event_in;
 use cv_dates::Day;
 use plain_text::lines::next_numbered;
 use policy_limits::{Setup, SetupRefusal, is_setup_line, take_line};
@@ -33,20 +36,38 @@ pub enum ScriptRefusal {
     NoMemory,
 }
 
-/// The rule of order that the event breaks, where `today` is the day in force.
-fn order_rule(today: &Option<Day>, event: &Event) -> Option<LineRule>
-    ensures { result ≡ order_rule today.now event.now }
+/// The day that the event begins.
+fn day_begun(event: &NamedEvent) -> Option<Day>
+    ensures { result ≡ day_begun event.now }
 {
-    match (today, event) {
-        (None, Event::Ask { .. }) => Some(LineRule::TooEarly),
-        (Some(today), Event::Day { day }) => {
+    match event {
+        NamedEvent::Day { day } => Some(*day),
+        NamedEvent::Ask { .. }
+        | NamedEvent::Found { .. }
+        | NamedEvent::Link { .. }
+        | NamedEvent::Trust { .. }
+        | NamedEvent::Apply { .. }
+        | NamedEvent::Fetch { .. }
+        | NamedEvent::Push { .. }
+        | NamedEvent::Send { .. }
+        | NamedEvent::Deliver { .. } => None,
+    }
+}
+
+/// The rule of order that an event breaks which begins this day, where `today` is the day in force.
+fn order_rule(today: &Option<Day>, begun: &Option<Day>) -> Option<LineRule>
+    ensures { result ≡ order_rule today.now begun.now }
+{
+    match (today, begun) {
+        (None, None) => Some(LineRule::TooEarly),
+        (Some(today), Some(day)) => {
             if day.is_before(today) {
                 Some(LineRule::DayFalls)
             } else {
                 None
             }
         }
-        (None, Event::Day { .. }) | (Some(_), Event::Ask { .. }) => None,
+        (None, Some(_)) | (Some(_), None) => None,
     }
 }
 
@@ -58,25 +79,6 @@ fn count_rule(events: usize) -> Option<LineRule>
         None
     } else {
         Some(LineRule::TooMany)
-    }
-}
-
-/// The first rule that the event breaks, on this day and behind so many events.
-fn rule_behind(today: &Option<Day>, events: usize, event: &Event) -> Option<LineRule>
-    ensures { result ≡ rule_behind today.now events event.now }
-{
-    match order_rule(today, event) {
-        Some(rule) => Some(rule),
-        None => count_rule(events),
-    }
-}
-
-/// Keeps the day in force after the event.
-fn keep_day(today: &mut Option<Day>, event: &Event)
-    ensures { today.new ≡ later_day today.old event.now }
-{
-    if let Event::Day { day } = event {
-        *today = Some(*day);
     }
 }
 
@@ -124,22 +126,36 @@ fn take_setup(setup: &mut Setup, events: usize, line: u64, text: &[u8]) -> Resul
 /// Takes a line that is no setup line.
 fn take_event(
     alloc: Global,
+    setup: &Setup,
     events: &mut EventLines,
     today: &mut Option<Day>,
     line: u64,
     text: &[u8],
 ) -> Result<(), LineRefusal>
-    ensures fine { OnOk result (event_rule_behind today.old (length events.old) (event_of text.now) ≡ None) }
-    ensures day { OnOk result (today.new ≡ day_after today.old ((line, Alone (event_of text.now)) ∷ [])) }
-    ensures events { OnOk result (events.new ≡ events.old ++ events_of ((line, Alone (event_of text.now)) ∷ [])) }
+    ensures fine { OnOk result
+        (event_rule_behind (Ok setup.now) today.old (length events.old) (event_of text.now) ≡ None) }
+    ensures day { OnOk result (today.new ≡ last_day today.old (named_of ((line, Alone (event_of text.now)) ∷ []))) }
+    ensures events { OnOk result
+        (events.new ≡ events.old ++ events_of setup.now ((line, Alone (event_of text.now)) ∷ [])) }
+    ensures count { OnOk result
+        (length events.new ≡ length events.old + length (named_of ((line, Alone (event_of text.now)) ∷ []))) }
     ensures refused { IfErr result (λ refusal.
-        Breaks refusal (event_rule_behind today.old (length events.old) (event_of text.now))) }
+        Breaks refusal (event_rule_behind (Ok setup.now) today.old (length events.old) (event_of text.now))) }
 {
-    let event = read_event(alloc, text)?;
-    if let Some(rule) = rule_behind(today, events.len(), &event) {
+    let named = read_event(alloc, text)?;
+    let begun = day_begun(&named);
+    if let Some(rule) = order_rule(today, &begun) {
         return Err(LineRefusal::Rule(rule));
     }
-    keep_day(today, &event);
+    let Some(event) = event_in(setup, named) else {
+        return Err(LineRefusal::Rule(LineRule::Party));
+    };
+    if let Some(rule) = count_rule(events.len()) {
+        return Err(LineRefusal::Rule(rule));
+    }
+    if begun.is_some() {
+        *today = begun;
+    }
     if events.push(EventLine { line, event }).is_err() {
         return Err(LineRefusal::NoMemory);
     }
@@ -162,7 +178,7 @@ fn take(
     if is_setup_line(text) {
         take_setup(&mut script.setup, script.events.len(), line, text)
     } else {
-        take_event(alloc, &mut script.events, today, line, text)
+        take_event(alloc, &script.setup, &mut script.events, today, line, text)
     }
 }
 

@@ -1,6 +1,6 @@
 // What holds of every script and of every fault.
 ghost use Rattle.eac_cli.specs.ScriptLaws.{ScriptsAreFine, FaultIsOne, EventsAreOne, SetupIsOne, SetupsAreScripts};
-ghost use Rattle.eac_cli.specs.ScriptLaws.{SetupsComeFirst, ScriptsAreInOrder, ScriptsAreShort};
+ghost use Rattle.eac_cli.specs.ScriptLaws.{SetupsComeFirst, ScriptsAreInOrder, ScriptsFit, ScriptsAreShort};
 
 /// Bytes that are a script have no fault.
 pub fn scripts_have_no_fault()
@@ -35,6 +35,11 @@ pub fn setups_come_first()
 /// In every script a day stands before the first other event, and no day is before the day in force.
 pub fn scripts_are_in_order()
     ensures { ScriptsAreInOrder }
+{}
+
+/// In every script the parties of an event are parties of the setup and have their parts.
+pub fn scripts_fit()
+    ensures { ScriptsFit }
 {}
 
 /// Every script has 20,000 events at most.

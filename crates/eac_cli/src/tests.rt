@@ -4,9 +4,12 @@
 // at the end of a scope, and at each `?`, every part of them would be proved apart.
 ghost use Rattle.std.specs.Prelude.{◌≤◌, ◌<◌, Some, None};
 
+mod events;
+
 use crate::tool::{Report, Status, run_tool};
 use eac_base::{FailPlan, Failed, MemorySink, MemorySource, Octets, Sink, Stream, Words};
-use keeper::{KeeperPlan, MemoryKeeper, Moment};
+use keeper::{Keeper, KeeperPlan, MemoryKeeper, Moment};
+use signature_provider::{SignatureProvider, TableProvider};
 use std::alloc::Global;
 use std::process::Abort;
 
@@ -55,10 +58,11 @@ struct Outside {
     most: u64,
     /// A place that no read goes over; 0 is none.
     cut: u64,
-    /// The read, the write and the keeper's call that fail.
+    /// The read, the write, the keeper's and the provider's call that fail.
     read: Option<u64>,
     write: Option<u64>,
     keep: Option<(u64, Moment)>,
+    sign: Option<u64>,
 }
 
 /// No call fails.
@@ -68,6 +72,7 @@ const CALM: Outside = Outside {
     read: None,
     write: None,
     keep: None,
+    sign: None,
 };
 
 fn octets(rt: &impl Abort, alloc: Global, bytes: &[u8]) -> Octets {
@@ -119,7 +124,29 @@ fn ended(rt: &impl Abort, report: Report) -> (Status, u64) {
     ended
 }
 
-// Calls the tool with these words over this input and sink.
+fn provider_of(rt: &impl Abort, alloc: Global, outside: &Outside) -> TableProvider {
+    TableProvider::new(alloc, plan_of(rt, alloc, outside.sign))
+}
+
+// Calls the tool with these words over this input, sink, keeper and provider.
+fn call_with<K: Sink, B: Keeper, P: SignatureProvider>(
+    rt: &impl Abort,
+    alloc: Global,
+    list: &[&[u8]],
+    source: MemorySource,
+    sink: &mut K,
+    keeper: &mut B,
+    provider: &mut P,
+) -> (Status, u64) {
+    let words = words_of(rt, alloc, list);
+    let mut source = source;
+    let report = run_tool(alloc, &words, &mut source, sink, keeper, provider);
+    drop(words);
+    drop(source);
+    ended(rt, report)
+}
+
+// The same over a keeper and a provider in memory.
 fn call_over<K: Sink>(
     rt: &impl Abort,
     alloc: Global,
@@ -130,14 +157,13 @@ fn call_over<K: Sink>(
 ) -> (Status, u64)
     requires { 1 ≤ outside.now.most }
 {
-    let words = words_of(rt, alloc, list);
-    let mut source = source_of(rt, alloc, outside, input);
+    let source = source_of(rt, alloc, outside, input);
     let mut keeper = keeper_of(rt, alloc, outside);
-    let report = run_tool(alloc, &words, &mut source, sink, &mut keeper);
-    drop(words);
-    drop(source);
+    let mut provider = provider_of(rt, alloc, outside);
+    let ended = call_with(rt, alloc, list, source, sink, &mut keeper, &mut provider);
     drop(keeper);
-    ended(rt, report)
+    drop(provider);
+    ended
 }
 
 // The same over a sink in memory, which has to have this text in the end.
@@ -194,7 +220,7 @@ fn scripts_have_these_journals(rt: HostRuntime) {
             b"4: issued FRDVXYZ99999 240229\n",
         ),
         (b"day 240101\nday 240101\n", 2, b""),
-        // a setup changes nothing but the numbers of lines
+        // the register asks for no party
         (
             b"cvca DECVCA ec 03 1096\ndv DEDVBUND\nregister DECVCA DEDVBUND domestic 03 90 3 bare\n\
               day 240101\nask DEDVBUND00001 0102\n",
@@ -223,7 +249,7 @@ fn the_first_fault_is_told_with_its_least_rule(rt: HostRuntime) {
         (b"day 240101\nask DEDVBUND00001 0g\n", 2, 1),
         (b"day 240101\r\r\n", 1, 1),
         (b"day 240101\r", 1, 1),
-        (b"# none\n\nfound DECVCA\n", 3, 1),
+        (b"# none\n\nfound DECVCA\n", 3, 4),
         (b"\nask DEDVBUND00001 01\nday 240101\n", 2, 4),
         (b"day 240102\nask DEDVBUND00001 01\nday 240101\n", 3, 5),
         (b"day 240102\nday 240101\nday 24010\n", 2, 5),
@@ -278,7 +304,7 @@ const BEHIND_FIVE: [(&[u8], u64, u8); 46] = [
         1,
     ),
     // 1: no event line in the grammar
-    (b"found DECVCA", 6, 1),
+    (b"found DE", 6, 1),
     (b"day 230229", 6, 1),
     (b"day 240101\nask DEDVBUND0000a 01", 7, 1),
     // 2: a setup line beyond a limit
@@ -462,8 +488,8 @@ fn pieces_of_any_size_give_the_same_journal(rt: HostRuntime) {
     assert!(rt; ended == (Status::Done, 5));
 }
 
-// The repeated script takes two reads, five keeper calls (a look, a count and an adding, then two looks) and three
-// writes.
+// The repeated script takes two reads, five keeper calls (a look, a count and an adding, then two looks) and six
+// writes, two for each line: its text and its line feed.
 #[test]
 fn each_outside_call_fails_in_turn(rt: HostRuntime) {
     let alloc = rt.alloc();
@@ -475,13 +501,24 @@ fn each_outside_call_fails_in_turn(rt: HostRuntime) {
         let ended = run(&rt, alloc, &outside, REPEATED, b"");
         assert!(rt; ended == (Status::ReadFault, 0));
     }
-    let write_table: [(u64, u64, &[u8]); 3] = [
+    let write_table: [(u64, u64, &[u8]); 6] = [
         (1, 1, b""),
-        (2, 3, b"2: issued DEDVBUND00001 240101\n"),
+        (2, 1, b"2: issued DEDVBUND00001 240101"),
+        (3, 3, b"2: issued DEDVBUND00001 240101\n"),
         (
+            4,
             3,
+            b"2: issued DEDVBUND00001 240101\n4: kept DEDVBUND00001 240101",
+        ),
+        (
+            5,
             4,
             b"2: issued DEDVBUND00001 240101\n4: kept DEDVBUND00001 240101\n",
+        ),
+        (
+            6,
+            4,
+            b"2: issued DEDVBUND00001 240101\n4: kept DEDVBUND00001 240101\n5: refused 2",
         ),
     ];
     for (n, done, journal) in write_table {

@@ -13,6 +13,7 @@ use crate::script::{ScriptRefusal, read_script};
 use crate::show::show_text;
 use eac_base::{Acks, Failed, ReadRefusal, Sink, Source, Words, is_same, read_all, write_all};
 use keeper::Keeper;
+use signature_provider::SignatureProvider;
 use std::alloc::Global;
 use std::fmt;
 
@@ -134,17 +135,21 @@ fn status_of(stop: Option<Stop>) -> Status
 }
 
 // Runs the script of these bytes.
-fn run_bytes<K: Sink, B: Keeper>(
+fn run_bytes<K: Sink, B: Keeper, P: SignatureProvider>(
     alloc: Global,
     bytes: &[u8],
     sink: &mut K,
     keeper: &mut B,
+    provider: &mut P,
 ) -> (Status, u64)
     requires { length bytes.now ≤ most_input }
-    ensures claim { (left : Option (List ℕ)) → IsAtEnd left → Claim (run_objects K.Stream B.Keeper sink.old keeper.old)
-        (run_objects K.Stream B.Keeper sink.new keeper.new) left result.0 result.1 bytes.now }
+    ensures claim { (left : Option (List ℕ)) → IsAtEnd left
+        → Claim (run_objects K.Stream B.Keeper P.SignatureProvider sink.old keeper.old provider.old)
+        (run_objects K.Stream B.Keeper P.SignatureProvider sink.new keeper.new provider.new)
+        left result.0 result.1 bytes.now }
     ensures cause { IsRunStatus result.0 (K.lost sink.old) (K.lost sink.new) }
-    ensures nothing { RunsNothing result.0 → (sink.new ≡ sink.old) × (keeper.new ≡ keeper.old) }
+    ensures nothing { RunsNothing result.0 → (sink.new ≡ sink.old) × (keeper.new ≡ keeper.old)
+        × (provider.new ≡ provider.old) }
 {
     let script = match read_script(alloc, bytes) {
         Ok(script) => script,
@@ -153,28 +158,38 @@ fn run_bytes<K: Sink, B: Keeper>(
         }
         Err(ScriptRefusal::NoMemory) => return (Status::NoMemory, 0),
     };
-    let (done, stop) = run_lines(alloc, script.events.as_slice(), sink, keeper);
+    let (done, stop) = run_lines(
+        alloc,
+        &script.setup,
+        script.events.as_slice(),
+        sink,
+        keeper,
+        provider,
+    );
     (status_of(stop), done)
 }
 
 // Reads the source, and runs the script that it has.
-fn read_and_run<S: Source, K: Sink, B: Keeper>(
+fn read_and_run<S: Source, K: Sink, B: Keeper, P: SignatureProvider>(
     alloc: Global,
     source: &mut S,
     sink: &mut K,
     keeper: &mut B,
+    provider: &mut P,
 ) -> (Status, u64)
     ensures claim { (bytes : List ℕ)
         × WereRead (S.left source.old) (S.left source.new) (S.reads source.old) (S.reads source.new) bytes
-        × Claim (run_objects K.Stream B.Keeper sink.old keeper.old) (run_objects K.Stream B.Keeper sink.new keeper.new)
+        × Claim (run_objects K.Stream B.Keeper P.SignatureProvider sink.old keeper.old provider.old)
+        (run_objects K.Stream B.Keeper P.SignatureProvider sink.new keeper.new provider.new)
         (S.left source.new) result.0 result.1 bytes }
-    ensures nothing { RunsNothing result.0 → (sink.new ≡ sink.old) × (keeper.new ≡ keeper.old) }
+    ensures nothing { RunsNothing result.0 → (sink.new ≡ sink.old) × (keeper.new ≡ keeper.old)
+        × (provider.new ≡ provider.old) }
     ensures read { RoseFor Status.ReadFault result.0 (S.faults source.old) (S.faults source.new) }
     ensures write { RoseFor Status.WriteFault result.0 (K.lost sink.old) (K.lost sink.new) }
     ensures not_usage { result.0 ≢ Status.Usage }
 {
     match read_all(alloc, source, MOST_INPUT) {
-        Ok(bytes) => run_bytes(alloc, bytes.as_slice(), sink, keeper),
+        Ok(bytes) => run_bytes(alloc, bytes.as_slice(), sink, keeper, provider),
         Err(ReadRefusal::ReadFault) => (Status::ReadFault, 0),
         Err(ReadRefusal::TooLong) => (Status::TooLong, 0),
         Err(ReadRefusal::NoMemory) => (Status::NoMemory, 0),
@@ -182,20 +197,24 @@ fn read_and_run<S: Source, K: Sink, B: Keeper>(
 }
 
 // The same, and what it owes to a source that tells its bytes.
-fn run_source<S: Source, K: Sink, B: Keeper>(
+fn run_source<S: Source, K: Sink, B: Keeper, P: SignatureProvider>(
     alloc: Global,
     source: &mut S,
     sink: &mut K,
     keeper: &mut B,
+    provider: &mut P,
 ) -> (Status, u64)
-    ensures call { RunCall (objects S.Stream K.Stream B.Keeper source.old sink.old keeper.old)
-        (objects S.Stream K.Stream B.Keeper source.new sink.new keeper.new) result.0 result.1 }
-    ensures nothing { RunsNothing result.0 → (sink.new ≡ sink.old) × (keeper.new ≡ keeper.old) }
+    ensures call { RunCall
+        (objects S.Stream K.Stream B.Keeper P.SignatureProvider source.old sink.old keeper.old provider.old)
+        (objects S.Stream K.Stream B.Keeper P.SignatureProvider source.new sink.new keeper.new provider.new)
+        result.0 result.1 }
+    ensures nothing { RunsNothing result.0 → (sink.new ≡ sink.old) × (keeper.new ≡ keeper.old)
+        × (provider.new ≡ provider.old) }
     ensures read { RoseFor Status.ReadFault result.0 (S.faults source.old) (S.faults source.new) }
     ensures write { RoseFor Status.WriteFault result.0 (K.lost sink.old) (K.lost sink.new) }
     ensures not_usage { result.0 ≢ Status.Usage }
 {
-    read_and_run(alloc, source, sink, keeper)
+    read_and_run(alloc, source, sink, keeper, provider)
 }
 
 // Prints what these bytes are.
@@ -251,17 +270,19 @@ fn show_source<S: Source, K: Sink>(alloc: Global, source: &mut S, sink: &mut K) 
 
 /// Does what the words ask.
 ///
-/// `run` reads a script from the source, runs it over the keeper's rows, and writes the journal to the sink, each
-/// event's line before the next event. A fault of the keeper is a journal line, and the run goes on. `show` reads a
+/// `run` reads a script from the source, runs it over the keeper's rows with the provider's keys, and writes the
+/// journal to the sink, each event's line before the next event. A fault of keeper or provider is a journal line, and
+/// the run goes on. `show` reads a
 /// card-verifiable certificate and prints its fields, or why the input is none.
 ///
 /// [`Status`] says when each status comes.
-pub fn run_tool<S: Source, K: Sink, B: Keeper>(
+pub fn run_tool<S: Source, K: Sink, B: Keeper, P: SignatureProvider>(
     alloc: Global,
     words: &Words,
     source: &mut S,
     sink: &mut K,
     keeper: &mut B,
+    provider: &mut P,
 ) -> Report
     // `Usage` exactly where the words are none of a command; then nothing was asked of the outside.
     ensures usage { result.status ≡ Status.Usage → command_of words.now ≡ None }
@@ -269,14 +290,20 @@ pub fn run_tool<S: Source, K: Sink, B: Keeper>(
         → (result.status ≡ Status.Usage) × (result.done ≡ 0) × (source.new ≡ source.old) }
     // What a command did, from the objects before the call to those after it.
     ensures run { command_of words.now ≡ Some Command.Run
-        → RunCall (objects S.Stream K.Stream B.Keeper source.old sink.old keeper.old)
-        (objects S.Stream K.Stream B.Keeper source.new sink.new keeper.new) result.status result.done }
+        → RunCall
+        (objects S.Stream K.Stream B.Keeper P.SignatureProvider source.old sink.old keeper.old provider.old)
+        (objects S.Stream K.Stream B.Keeper P.SignatureProvider source.new sink.new keeper.new provider.new)
+        result.status result.done }
     ensures show { command_of words.now ≡ Some Command.Show
-        → ShowCall (objects S.Stream K.Stream B.Keeper source.old sink.old keeper.old)
-        (objects S.Stream K.Stream B.Keeper source.new sink.new keeper.new) result.status }
-    // `show` asks for no row, and an input that isn't run leaves sink and keeper alone.
-    ensures show_keeps { command_of words.now ≡ Some Command.Show → (result.done ≡ 0) × (keeper.new ≡ keeper.old) }
-    ensures nothing { RunsNothing result.status → (sink.new ≡ sink.old) × (keeper.new ≡ keeper.old) }
+        → ShowCall
+        (objects S.Stream K.Stream B.Keeper P.SignatureProvider source.old sink.old keeper.old provider.old)
+        (objects S.Stream K.Stream B.Keeper P.SignatureProvider source.new sink.new keeper.new provider.new)
+        result.status }
+    // `show` asks for no row and no key, and an input that isn't run leaves sink, keeper and provider alone.
+    ensures show_keeps { command_of words.now ≡ Some Command.Show → (result.done ≡ 0) × (keeper.new ≡ keeper.old)
+        × (provider.new ≡ provider.old) }
+    ensures nothing { RunsNothing result.status → (sink.new ≡ sink.old) × (keeper.new ≡ keeper.old)
+        × (provider.new ≡ provider.old) }
     // A failure of the outside is told just where that object counted one.
     ensures read { RoseFor Status.ReadFault result.status (S.faults source.old) (S.faults source.new) }
     ensures write { RoseFor Status.WriteFault result.status (K.lost sink.old) (K.lost sink.new) }
@@ -285,7 +312,7 @@ pub fn run_tool<S: Source, K: Sink, B: Keeper>(
     match command_of(words) {
         None => reported(alloc, Status::Usage, 0),
         Some(Command::Run) => {
-            let (status, done) = run_source(alloc, source, sink, keeper);
+            let (status, done) = run_source(alloc, source, sink, keeper, provider);
             reported(alloc, status, done)
         }
         Some(Command::Show) => {

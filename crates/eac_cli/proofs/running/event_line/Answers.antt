@@ -1,11 +1,23 @@
-use Rattle.eac_cli.specs.Turn.{Memory}
-use Rattle.eac_cli.proofs.Turning.{unasked, unheard_too, no_line}
+use Rattle.std.proofs.Common.{ℕ, List, ◌++◌, Ok, refl, ap, ◌∙◌}
+use Rattle.std.specs.declared.result.Result.{Result}
+use Rattle.eac_net.specs.Objects.{outside}
+use Rattle.eac_cli.specs.Steps.{head_of}
+use Rattle.eac_cli.proofs.LineTexts.{spoke, broke}
 use Rattle.eac_cli.proofs.running.event_line.Goals as goal
 
-pub returns-in_err-push_head-in-Ask-clause-ran : goal.returns-in_err-push_head-in-Ask-clause-ran
-returns-in_err-push_head-in-Ask-clause-ran g c = (Memory, no_line _ _ c.from_residual-in_err-push_head-in-Ask.ensures.0, unasked _ c.in-Ask.reference c.in-Ask.bytes _ c.in-Ask.is c.requires)
+pub returns-in_err-step-clause-ran : goal.returns-in_err-step-clause-ran
+returns-in_err-step-clause-ran g c =
+    let o = outside g.B.Keeper g.P.SignatureProvider c.args.keeper.now c.args.provider.now in
+    let o' = outside g.B.Keeper g.P.SignatureProvider c.step.new.keeper c.step.new.provider in
+    broke c.args.setup.now c.args.line.now c.args.world.now c.step.new.world o o' c.begin_line.new.text c.step.new.line
+    (c.in_ok-begin_line.ensures ∙ ap (λ l. l ++ head_of c.args.line.now) c.new-text.ensures) c.step.result c.in_err-step.field-0.0
+    c.from_residual-in_err-step.result c.in_err-step.was c.from_residual-in_err-step.ensures.0 c.step.ensures.steps
 
-pub returns-in_err-push_all-in-Ask-clause-ran : goal.returns-in_err-push_all-in-Ask-clause-ran
-returns-in_err-push_all-in-Ask-clause-ran g c =
-    let ran = c.step-in-Ask.ensures.ran in
-    (Memory, no_line _ _ c.from_residual-in_err-push_all-in-Ask.ensures.0, unheard_too _ c.in-Ask.reference c.in-Ask.bytes ran.0 _ _ c.in-Ask.is ran.2)
+pub returns-clause-ran : goal.returns-clause-ran
+returns-clause-ran g c =
+    let o = outside g.B.Keeper g.P.SignatureProvider c.args.keeper.now c.args.provider.now in
+    let o' = outside g.B.Keeper g.P.SignatureProvider c.step.new.keeper c.step.new.provider in
+    let text : Result (List ℕ) (Unit {0}) = Ok c.step.new.line in
+    spoke c.args.setup.now c.args.line.now c.args.world.now c.step.new.world o o' c.begin_line.new.text c.step.new.line
+    (c.in_ok-begin_line.ensures ∙ ap (λ l. l ++ head_of c.args.line.now) c.new-text.ensures) c.step.result c.in_ok-step.field-0
+    text c.in_ok-step.was refl c.step.ensures.steps
