@@ -1,5 +1,5 @@
 -- A key with the next number is a new one, and legal.
-use Rattle.std.proofs.Common.{◌≡◌, ℕ, ◌+◌, ◌^◌, ◌<◌, ◌≤◌, Bool, true, false, cond, List, [], ◌∷◌, ◌++◌, length, take, drop, refl, sym, ap, ◌∙◌, subst, add-zero, arith}
+use Rattle.std.proofs.Common.{◌≡◌, ℕ, zero, suc, ◌+◌, ◌-◌, ◌^◌, ◌<◌, ◌≤◌, Bool, true, false, cond, List, [], ◌∷◌, ◌++◌, length, take, drop, get_or, ◌⊎◌, inl, inr, refl, sym, ap, ◌∙◌, subst, add-zero, arith}
 use Rattle.std.specs.Prelude.{◌&&◌, ◌||◌, ◌==◌, nat_le}
 use Rattle.std.specs.Int.{w64, to_be_bytes, from_be_bytes}
 use Rattle.std.specs.Str.{bytes_eq}
@@ -63,6 +63,10 @@ numbered_more n (k ∷ keys) key are e =
     let place : n + length (k ∷ keys) ≡ (n + 1) + length keys = omega arith in
     (are.0, numbered_more (n + 1) keys key are.1 (e ∙ ap (numbered_point key.algorithm) place))
 
+pub or_false : (a : Bool) → (a || false) ≡ a
+or_false true = refl
+or_false false = refl
+
 or_cases : (a b : Bool) → (a || b) ≡ true → (a ≡ true → ⊥) → b ≡ true
 or_cases true b e differs = absurd (differs refl)
 or_cases false b e _ = e
@@ -82,6 +86,82 @@ later_point n (k ∷ keys) a m are later fits other among e =
 pub among_last : (keys : List PublicKey) (key : PublicKey) → is_among (keys ++ key ∷ []) key ≡ true
 among_last [] key = rw (same_key-self key) refl
 among_last (k ∷ keys) key = elim (same_key k key) as (λ b. (b || is_among (keys ++ key ∷ []) key) ≡ true) [ true ↦ refl | false ↦ among_last keys key ]
+
+-- ---- a key found by the number in its point
+
+sizes : (b : Bool) (n : ℕ) (p : List ℕ) → p ≡ spelt b n → (length p ≡ 8) ⊎ (length p ≡ 13)
+sizes true n p e = inl (ap length e)
+sizes false n p e = inr (ap length e)
+
+pub point_size : (a : Algorithm) (n : ℕ) (p : List ℕ) → p ≡ numbered_point a n → (length p ≡ 8) ⊎ (length p ≡ 13)
+point_size a n p e = sizes (is_elliptic a) n p e
+
+short : (b : Bool) (n : ℕ) (p : List ℕ) → p ≡ spelt b n → length p ≡ 8 → p ≡ to_be_bytes w64 n
+short true n p e size = e
+short false n p e size = let lengths : ◌≡◌ {A = ℕ} 13 8 = sym (ap length e) ∙ size in absurd cc
+
+pub short_point : (a : Algorithm) (n : ℕ) (p : List ℕ) → p ≡ numbered_point a n → length p ≡ 8 → p ≡ to_be_bytes w64 n
+short_point a n p e size = short (is_elliptic a) n p e size
+
+long : (b : Bool) (n : ℕ) (p : List ℕ) → p ≡ spelt b n → length p ≡ 13 → take 8 (drop 2 p) ≡ to_be_bytes w64 n
+long true n p e size = let lengths : ◌≡◌ {A = ℕ} 8 13 = sym (ap length e) ∙ size in absurd cc
+long false n p e size = ap (λ (l : List ℕ). take 8 (drop 2 l)) e
+
+pub long_point : (a : Algorithm) (n : ℕ) (p : List ℕ) → p ≡ numbered_point a n → length p ≡ 13 → take 8 (drop 2 p) ≡ to_be_bytes w64 n
+long_point a n p e size = long (is_elliptic a) n p e size
+
+not_true : (b : Bool) → (b ≡ true → ⊥) → b ≡ false
+not_true true no_way = absurd (no_way refl)
+not_true false no_way = refl
+
+-- The numbers, from the first key's on, that this point may have by the keys' count.
+abbrev pub HasNumber : ℕ → ℕ → List ℕ → ℕ → Type 0
+HasNumber n count point number = (a : Algorithm) (k : ℕ) → n ≤ k → k < n + count → point ≡ numbered_point a k → k ≡ number
+
+point_of_same : (n : ℕ) (made key : PublicKey) → made.point ≡ numbered_point made.algorithm n → same_key made key ≡ true → key.point ≡ numbered_point made.algorithm n
+point_of_same n made key is same = sym (ap (λ (k : PublicKey). k.point) (same_key-true made key same)) ∙ is
+
+pub none_among : (n : ℕ) (keys : List PublicKey) (key : PublicKey) (number : ℕ) → AreNumbered n keys → HasNumber n (length keys) key.point number
+    → (number < n) ⊎ (n + length keys ≤ number) → is_among keys key ≡ false
+none_among n [] key number are only outside = refl
+none_among n (made ∷ keys) key number are only outside =
+    let here : same_key made key ≡ false = not_true (same_key made key) (λ same.
+    let at : n ≡ number = only made.algorithm n (omega arith) (omega arith) (point_of_same n made key are.0 same) in
+    elim outside [ inl low ↦ omega (arith, low, at) | inr high ↦ omega (arith, high, at) ]) in
+    let further : (number < n + 1) ⊎ (n + 1 + length keys ≤ number) = elim outside [ inl low ↦ inl (omega (arith, low)) | inr high ↦ inr (omega (arith, high)) ] in
+    rw (here, none_among (n + 1) keys key number are.1 (λ a k low high. only a k (omega arith) (omega arith)) further) refl
+
+pub one_among : (n : ℕ) (keys : List PublicKey) (key : PublicKey) (i : ℕ) (d : PublicKey) → i < length keys → AreNumbered n keys → HasNumber n (length keys) key.point (n + i)
+    → is_among keys key ≡ same_key (get_or keys i d) key
+one_among n [] key i d within are only = absurd (omega arith)
+one_among n (made ∷ keys) key zero d within are only =
+    let later : is_among keys key ≡ false = none_among (n + 1) keys key (n + 0) are.1 (λ a k low high. only a k (omega arith) (omega arith)) (inl (omega arith)) in
+    rw later (or_false (same_key made key))
+one_among n (made ∷ keys) key (suc i) d within are only =
+    let here : same_key made key ≡ false = not_true (same_key made key) (λ same.
+    let at : n ≡ n + suc i = only made.algorithm n (omega arith) (omega arith) (point_of_same n made key are.0 same) in omega (arith, at)) in
+    let place : n + suc i ≡ (n + 1) + i = omega arith in
+    rw here (one_among (n + 1) keys key i d (omega arith) are.1 (λ a k low high e. only a k (omega arith) (omega arith) e ∙ place))
+
+-- The point tells no number but this one.
+abbrev pub TellsNumber : List ℕ → ℕ → Type 0
+TellsNumber point number = (a : Algorithm) (k : ℕ) → k < 2 ^ 64 → point ≡ numbered_point a k → number ≡ k
+
+has_number : (count : ℕ) (point : List ℕ) (number : ℕ) → count + 1 ≤ 2 ^ 64 → TellsNumber point number → HasNumber 1 count point number
+has_number count point number fits tells a k low high e = sym (tells a k (omega arith) e)
+
+pub not_among : (keys : List PublicKey) (key : PublicKey) (number : ℕ) → AreNumbered 1 keys → length keys + 1 ≤ 2 ^ 64 → TellsNumber key.point number
+    → (number ≡ 0) ⊎ (length keys < number) → false ≡ is_among keys key
+not_among keys key number are fits tells outside =
+    let away : (number < 1) ⊎ (1 + length keys ≤ number) = elim outside [ inl is_zero ↦ inl (omega (arith, is_zero)) | inr beyond ↦ inr (omega (arith, beyond)) ] in
+    sym (none_among 1 keys key number are (has_number (length keys) key.point number fits tells) away)
+
+pub is_at : (keys : List PublicKey) (key : PublicKey) (number : ℕ) (made : PublicKey) (answer : Bool) → AreNumbered 1 keys → length keys + 1 ≤ 2 ^ 64 → TellsNumber key.point number
+    → (number ≡ 0 → ⊥) → number ≤ length keys → made ≡ get_or keys (number - 1) made → answer ≡ same_key made key → answer ≡ is_among keys key
+is_at keys key number made answer are fits tells some within found asked =
+    let place : number ≡ 1 + (number - 1) = omega arith in
+    let numbers : HasNumber 1 (length keys) key.point (1 + (number - 1)) = subst (HasNumber 1 (length keys) key.point) place (has_number (length keys) key.point number fits tells) in
+    asked ∙ ap (λ (k : PublicKey). same_key k key) found ∙ sym (one_among 1 keys key (number - 1) made (omega arith) are numbers)
 
 -- ---- it is legal
 

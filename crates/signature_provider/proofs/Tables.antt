@@ -7,7 +7,7 @@ use Rattle.std.proofs.lemmas.Slice.Eq.{bytes_eq-Decides}
 use Rattle.eac_base.proofs.EqualBytes.{bytes_eq-true, bytes_eq-self}
 use Rattle.signature_provider.specs.Provider.{PublicKey, same_key, IsHonest, SaysMore, Signs}
 use Rattle.signature_provider.specs.Instruments.{table_signature, is_row_of, rows_say, table_says}
-use Rattle.signature_provider.proofs.NumberedKeys.{and_both, same_key-true, same_key-self, number_told}
+use Rattle.signature_provider.proofs.NumberedKeys.{and_both, or_false, same_key-true, same_key-self, number_told}
 
 -- ---- the number in a signature
 
@@ -31,10 +31,6 @@ or_first false b e = inr e
 or_true : (a : Bool) → (a || true) ≡ true
 or_true true = refl
 or_true false = refl
-
-or_false : (a : Bool) → (a || false) ≡ a
-or_false true = refl
-or_false false = refl
 
 and_none : (a : Bool) → (a && false) ≡ false
 and_none true = refl

@@ -1,10 +1,12 @@
 // The keys that an instrument made, and their points.
-ghost use Rattle.std.specs.Prelude.{◌≡◌, ◌+◌, ◌∷◌, [], ◌++◌, length, IfOk, OnErr, IsTrue, if◌then◌else◌};
+ghost use Rattle.std.specs.Prelude.{◌≡◌, ℕ, ◌+◌, ◌^◌, ◌<◌, ◌∷◌, [], ◌++◌, length, IfOk, OnErr, IsTrue, if◌then◌else◌};
 ghost use Rattle.std.specs.Int.{w64, to_be_bytes};
 ghost use Rattle.signature_provider.specs.Key.{is_form, is_elliptic};
 ghost use Rattle.signature_provider.specs.Provider.{public_key, viewed_key, same_key, HoldsMore, MakesKey};
 ghost use Rattle.signature_provider.specs.Instruments.{numbered_point, is_among};
+ghost use Rattle.signature_provider.specs.declared.key.Algorithm.{Algorithm};
 
+use crate::table_signature::number_of;
 use crate::{Algorithm, Key, KeyForm, KeyView};
 use eac_base::{NoMemory, Octets, is_same};
 use std::alloc::Global;
@@ -80,6 +82,18 @@ fn point_of(alloc: Global, algorithm: Algorithm, number: u64) -> Result<Octets, 
     Ok(point)
 }
 
+// The number of the key whose point it is, and 0 where no key has such a point.
+fn number_in(point: &[u8]) -> u64
+    ensures { (algorithm : Algorithm) (number : ℕ) → number < 2 ^ 64
+        → point.now ≡ numbered_point algorithm number → result ≡ number }
+{
+    match point.len() {
+        8 => number_of(point),
+        13 => number_of(&point[2..10]),
+        _ => 0,
+    }
+}
+
 // The key of this form and number.
 fn key_of(alloc: Global, like: &KeyForm, number: u64) -> Result<Key, NoMemory>
     ensures algorithm { IfOk result (λ key. key.algorithm ≡ like.now.algorithm) }
@@ -105,11 +119,15 @@ impl MadeKeys {
         }
     }
 
-    /// Whether the key is one of them.
+    /// Whether the key is one of them. It is compared with the one that has its point's number.
     pub(crate) fn has(&self, key: KeyView) -> bool
         ensures { result ≡ is_among self.now (viewed_key key.entry) }
     {
-        self.keys.iter().any(|made| made.is(key))
+        let number = number_in(key.point);
+        if number == 0 || (self.keys.len() as u64) < number {
+            return false;
+        }
+        self.keys[(number - 1) as usize].is(key)
     }
 
     /// Makes the next key, or leaves them as they are where memory is wanting.

@@ -32,8 +32,8 @@ pub(crate) fn number_in(signature: &[u8]) -> Option<u64>
     }
 }
 
-// The number in 8 bytes, the highest first.
-fn number_of(digits: &[u8]) -> u64
+/// The number in 8 bytes, the highest first.
+pub(crate) fn number_of(digits: &[u8]) -> u64
     requires { length digits.now ≡ 8 }
     ensures { (number : ℕ) → number < 2 ^ 64 → digits.now ≡ to_be_bytes w64 number → result ≡ number }
 {
