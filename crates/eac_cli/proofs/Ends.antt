@@ -85,10 +85,10 @@ module _ (left left' : Option (List ℕ)) (reads reads' : Option ℕ) where
 
 -- ---- what has to come
 
-all_read : (all bytes rest : List ℕ) → all ≡ bytes ++ rest → rest ≡ [] → bytes ≡ all
+pub all_read : (all bytes rest : List ℕ) → all ≡ bytes ++ rest → rest ≡ [] → bytes ≡ all
 all_read all bytes rest e none = sym (e ∙ ap (λ (l : List ℕ). bytes ++ l) none ∙ append-nil bytes)
 
-no_longer : (all bytes rest : List ℕ) → all ≡ bytes ++ rest → length bytes ≤ length all
+pub no_longer : (all bytes rest : List ℕ) → all ≡ bytes ++ rest → length bytes ≤ length all
 no_longer all bytes rest e = omega (arith, ap length e, length-append bytes rest)
 
 module _ (o n : RunObjects) (all bytes rest : List ℕ) (done : ℕ) (e : all ≡ bytes ++ rest) (R W : Type 0) where

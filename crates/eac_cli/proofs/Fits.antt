@@ -1,6 +1,6 @@
 -- The event that a line names in a setup may be run there: its parties have their parts, a day stands where it wants one,
 -- and its bytes are within the limits.
-use Rattle.std.proofs.Common.{◌≡◌, ℕ, ◌≤◌, ◌<◌, Bool, true, false, cond, List, [], ◌∷◌, length, Some, None, refl, sym, ap, ◌∙◌, subst, inl, inr}
+use Rattle.std.proofs.Common.{◌≡◌, ℕ, ◌≤◌, ◌<◌, Bool, true, false, cond, List, length, Some, None, refl, sym, ap, ◌∙◌, subst, inl, inr}
 use Rattle.std.specs.Prelude.{IsTrue, IsSome, ◌==◌}
 use Rattle.std.specs.Option.{option_or}
 use Rattle.std.specs.declared.option.Option.{Option}
@@ -8,15 +8,12 @@ use Rattle.std.proofs.lemmas.Bool.{eqb-true, eqb-false}
 use Rattle.eac_base.specs.Answers.{◌gives◌}
 use Rattle.policy_limits.specs.Setup.{SetupValue, number_of, is_authority, is_verifier, is_inspection_system}
 use Rattle.policy_limits.specs.declared.party.PartyKind.{PartyKind}
-use Rattle.eac_net.specs.Acting.{AuthorityFits, TrustFits, ApplyFits}
 use Rattle.eac_net.specs.Parties.{is_any, is_issuer, is_holder, is_party_of}
 use Rattle.eac_net.specs.Steps.{FitsLine, HasDay, later_day}
 use Rattle.eac_net.specs.declared.event.Event.{Event}
 use Rattle.eac_net.specs.declared.event.Event.TheVariants as events
 use Rattle.eac_cli.specs.Naming.{numbered, found_in, link_in, trust_in, asked_by_verifier, asked_by_system, apply_in, fetch_in, push_in, send_in, event_in}
 use Rattle.eac_cli.specs.Script.{day_begun, order_rule}
-use Rattle.eac_cli.specs.declared.line_rule.LineRule.{LineRule}
-use Rattle.eac_cli.specs.declared.line_rule.LineRule.TheVariants.{TooEarly}
 use Rattle.eac_cli.specs.declared.named_event.NamedEvent.{NamedEvent}
 use Rattle.eac_cli.specs.declared.named_event.NamedEvent.TheVariants as named
 

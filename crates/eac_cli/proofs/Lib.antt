@@ -5,6 +5,8 @@ pub mod Fits
 pub mod LineTexts
 pub mod MayRun
 pub mod Orders
+pub mod PlanEnds
+pub mod PlanTexts
 pub mod Reading
 pub mod Runs
 pub mod SetupScripts

@@ -1,6 +1,6 @@
 -- What a script says may be run: a day stands before every event that wants one, its parties have their parts, and its bytes
 -- are within the limit.
-use Rattle.std.proofs.Common.{◌≡◌, ℕ, ◌≤◌, ◌<◌, Bool, true, false, cond, List, [], ◌∷◌, length, Some, None, Ok, Err, refl, sym, subst, arith, nat_le}
+use Rattle.std.proofs.Common.{◌≡◌, ℕ, ◌≤◌, Bool, true, false, cond, List, [], ◌∷◌, length, Some, None, Ok, Err, refl, sym, subst, nat_le}
 use Rattle.std.specs.Prelude.{map, ◌&&◌}
 use Rattle.std.specs.List.{cons_option}
 use Rattle.std.specs.Option.{option_map}
@@ -20,13 +20,13 @@ use Rattle.policy_limits.specs.Setup.{SetupValue}
 use Rattle.policy_limits.specs.SetupLine.{is_setup_line}
 use Rattle.eac_net.specs.Steps.{FitsLine}
 use Rattle.eac_net.specs.declared.event.Event.{Event}
-use Rattle.eac_cli.specs.ActLines.{found_said, link_said, trust_said, apply_of, apply_said}
-use Rattle.eac_cli.specs.AskLines.{ask_of, ask_said}
-use Rattle.eac_cli.specs.DayLines.{day_of, day_said}
+use Rattle.eac_cli.specs.ActLines.{apply_of}
+use Rattle.eac_cli.specs.AskLines.{ask_of}
+use Rattle.eac_cli.specs.DayLines.{day_of}
 use Rattle.eac_cli.specs.LineGrammar.{kind_word, said_as, event_said, event_of}
 use Rattle.eac_cli.specs.LineWords.{holder_of, one_holder, two_holders, three_words, within, bytes_of}
 use Rattle.eac_cli.specs.Naming.{event_in}
-use Rattle.eac_cli.specs.PacketLines.{fetch_said, push_said, send_of, send_said, packet_with, packet_of, deliver_said}
+use Rattle.eac_cli.specs.PacketLines.{send_of, packet_with, packet_of}
 use Rattle.eac_cli.specs.Script.{Line, InSetup, Alone, line_of, named_of, events_of, IsScript, AllFit, InOrder}
 use Rattle.eac_cli.specs.declared.event.EventLine.{EventLine}
 use Rattle.eac_cli.specs.declared.event_kind.EventKind.{EventKind}
@@ -35,7 +35,7 @@ use Rattle.eac_cli.specs.declared.line_rule.LineRule.{LineRule}
 use Rattle.eac_cli.specs.declared.line_rule.LineRule.TheVariants.{Grammar, Limit}
 use Rattle.eac_cli.specs.declared.named_event.NamedEvent.{NamedEvent}
 use Rattle.eac_cli.specs.declared.named_event.NamedEvent.TheVariants as named
-use Rattle.eac_cli.proofs.Fits.{IsWithin, Fits, named_fits}
+use Rattle.eac_cli.proofs.Fits.{IsWithin, named_fits}
 use Rattle.eac_cli.proofs.Orders.{AllWithin, in_order}
 
 -- ---- one line

@@ -4,17 +4,16 @@ use Rattle.std.proofs.lemmas.Bool.{ltb-false, ltb-true}
 use Rattle.std.specs.Prelude.{nat_lt, is_some}
 use Rattle.std.specs.declared.option.Option.{Option}
 use Rattle.std.specs.declared.result.Result.{Result}
-use Rattle.std.specs.List.{cons_option, filter_map}
+use Rattle.std.specs.List.{cons_option}
 use Rattle.std.specs.Option.{option_map, option_or}
 use Rattle.eac_base.specs.Answers.{◌>>=◌}
 use Rattle.policy_limits.specs.SetupText.{with_line, with_lines}
 use Rattle.policy_limits.specs.declared.setup_refusal.SetupRefusal.{SetupRefusal}
 use Rattle.policy_limits.specs.Setup.{SetupValue}
-use Rattle.eac_net.specs.Steps.{HasDay, later_day}
 use Rattle.eac_net.specs.declared.event.Event.{Event}
 use Rattle.eac_cli.specs.LineRules.{rule_number}
 use Rattle.eac_cli.specs.Naming.{event_in}
-use Rattle.eac_cli.specs.Script.{Line, Said, InSetup, Alone, lines_read, setup_lines, setup_of, named_of, event_line, events_of, day_begun, last_day, day_after, order_rule, party_rule, count_rule, rule_behind, rule_in_setup, broken, Unbroken, IsScript, IsFault, IsNotBefore, IsInPlace, InOrder}
+use Rattle.eac_cli.specs.Script.{Line, Said, InSetup, Alone, lines_read, setup_lines, setup_of, named_of, events_of, day_begun, day_after, order_rule, party_rule, count_rule, rule_behind, rule_in_setup, broken, Unbroken, IsScript, IsFault, IsNotBefore, InOrder}
 use Rattle.eac_cli.specs.ScriptLaws.{IsInTwoParts}
 use Rattle.eac_cli.specs.declared.event.EventLine.{EventLine}
 use Rattle.eac_cli.specs.declared.line_rule.LineRule.{LineRule}

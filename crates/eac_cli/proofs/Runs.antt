@@ -1,13 +1,13 @@
 -- A run of lines goes on by one line, and what a whole run tells.
-use Rattle.std.proofs.Common.{◌≡◌, ℕ, ◌+◌, ◌<◌, zero, suc, List, [], ◌∷◌, ◌++◌, map, length, take, drop, get_or, Some, None, Ok, Err, refl, sym, ap, ◌∙◌, subst, arith, inl, inr, append-nil, append_assoc, length-append, length-take-le, add-one}
-use Rattle.std.specs.Prelude.{◌⊎◌, slice_get, IsSome}
+use Rattle.std.proofs.Common.{◌≡◌, ℕ, ◌+◌, ◌<◌, zero, suc, List, [], ◌∷◌, ◌++◌, map, length, take, drop, get_or, Some, None, Ok, Err, refl, sym, ap, ◌∙◌, subst, arith, inl, inr, append-nil, append_assoc, length-take-le, add-one}
+use Rattle.std.specs.Prelude.{slice_get, IsSome}
 use Rattle.std.specs.List.{All}
 use Rattle.std.specs.declared.option.Option.{Option}
 use Rattle.std.proofs.lemmas.List.{map-append, take_more}
 use Rattle.std.proofs.lemmas.List.Elements.{All-nil, All-cons, All-append, All-head, All-tail}
 use Rattle.std.specs.Io.KnownBytes.{Appends}
 use Rattle.std.proofs.KnownBytes.{Appends-trans, Appends-nil}
-use Rattle.eac_base.specs.Causes.{Rose, AppendsFront}
+use Rattle.eac_base.specs.Causes.{Rose}
 use Rattle.policy_limits.specs.Setup.{SetupValue}
 use Rattle.eac_net.specs.Items.{Ran, events_of, answers_of}
 use Rattle.eac_net.specs.Journal.{line_text, journal}

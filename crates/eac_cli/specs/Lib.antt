@@ -7,6 +7,8 @@ pub mod LineWords
 pub mod Naming
 pub mod Objects
 pub mod PacketLines
+pub mod PlanCall
+pub mod PlanText
 pub mod Script
 pub mod ScriptLaws
 pub mod Show

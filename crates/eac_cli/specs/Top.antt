@@ -14,7 +14,7 @@ use Rattle.eac_cli.specs.declared.event.EventLine.{EventLine}
 use Rattle.eac_cli.specs.declared.running.Stop.{Stop}
 use Rattle.eac_cli.specs.declared.running.Stop.TheVariants.{WriteFault as StopWriteFault, NoMemory as StopNoMemory}
 use Rattle.eac_cli.specs.declared.tool.Command.{Command}
-use Rattle.eac_cli.specs.declared.tool.Command.TheVariants.{Run, Show}
+use Rattle.eac_cli.specs.declared.tool.Command.TheVariants.{Run, Show, Plan}
 use Rattle.eac_cli.specs.declared.tool.Status.{Status}
 use Rattle.eac_cli.specs.declared.tool.Status.TheVariants.{Done, Usage, ScriptFault, TooLong, ReadFault, WriteFault}
 use Rattle.eac_cli.specs.declared.tool.Status.TheVariants.{NoMemory}
@@ -27,7 +27,8 @@ use Rattle.eac_cli.specs.Steps.{line_events, line_numbers}
 
 abbrev pub command_named : List ℕ → Option Command
 command_named word =
-    if bytes_eq word (codes "run") then Some Run else if bytes_eq word (codes "show") then Some Show else None
+    if bytes_eq word (codes "run") then Some Run else if bytes_eq word (codes "show") then Some Show
+    else if bytes_eq word (codes "plan") then Some Plan else None
 
 -- the command that these words are, if they are one
 abbrev pub command_of : List (List ℕ) → Option Command

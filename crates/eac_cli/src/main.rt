@@ -13,6 +13,7 @@ mod line_rule;
 mod named_event;
 mod naming;
 mod parts;
+mod plan;
 mod running;
 mod script;
 mod script_laws;

@@ -5,6 +5,7 @@
 ghost use Rattle.std.specs.Prelude.{◌≤◌, ◌<◌, Some, None};
 
 mod events;
+mod plans;
 
 use crate::tool::{Report, Status, run_tool};
 use eac_base::{FailPlan, Failed, MemorySink, MemorySource, Octets, Sink, Stream, Words};

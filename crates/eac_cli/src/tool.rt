@@ -4,15 +4,18 @@ ghost use Rattle.std.specs.declared.option.Option.{Option};
 ghost use Rattle.std.specs.Io.KnownBytes.{Consumes, IsAtEnd};
 ghost use Rattle.eac_base.specs.Causes.{Rose};
 ghost use Rattle.eac_cli.specs.Objects.{Objects, objects, run_objects, ReadFailed, WriteFailed};
+ghost use Rattle.eac_cli.specs.PlanCall.{Plans, IsPlanned, TellsNeedFault, PlanCall};
 ghost use Rattle.eac_cli.specs.Top.{command_named, command_of, most_input, Claim, Shows, IsShown, IsComplete};
 ghost use Rattle.eac_cli.specs.Top.{TellsFault, TellsLength, RunCall, ShowCall, WereRead, RoseFor, RunsNothing};
 ghost use Rattle.eac_cli.specs.Top.{IsRunStatus, status_of, number_of_status};
 
+use crate::plan::plan_text;
 use crate::running::{Stop, run_lines};
 use crate::script::{ScriptRefusal, read_script};
 use crate::show::show_text;
 use eac_base::{Acks, Failed, ReadRefusal, Sink, Source, Words, is_same, read_all, write_all};
 use keeper::Keeper;
+use renewal_plan::NeedRefusal;
 use signature_provider::SignatureProvider;
 use std::alloc::Global;
 use std::fmt;
@@ -24,8 +27,8 @@ pub enum Status {
     Done,
     /// The words are none of a command. Nothing was read, run or written.
     Usage,
-    /// This line is the first that breaks a rule of scripts, and this is the least rule that it breaks. Nothing was
-    /// run.
+    /// This line is the first that breaks a rule of scripts, or of needs under `plan`, and this is the least rule that
+    /// it breaks. Nothing was run or written.
     ScriptFault { line: u64, rule: u8 },
     /// The source gave more than 4,194,304 bytes. Nothing was run or written.
     TooLong,
@@ -58,7 +61,7 @@ impl fmt::Display for Status {
     fn fmt<W: fmt::Write>(&self, f: &mut fmt::Formatter<W>) -> fmt::Result {
         match self {
             Status::Done => f.write_str("done"),
-            Status::Usage => f.write_str("usage: run | show"),
+            Status::Usage => f.write_str("usage: run | show | plan"),
             Status::ScriptFault { line, rule } => write!(f, "script line {line} rule {rule}"),
             Status::TooLong => f.write_str("input too long"),
             Status::ReadFault => f.write_str("read fault"),
@@ -87,6 +90,8 @@ pub enum Command {
     Run,
     /// `show`: the certificate that the source has is printed.
     Show,
+    /// `plan`: the renewals that the need of the source asks for are printed.
+    Plan,
 }
 
 fn command_named(word: &[u8]) -> Option<Command>
@@ -96,6 +101,8 @@ fn command_named(word: &[u8]) -> Option<Command>
         Some(Command::Run)
     } else if is_same(word, b"show") {
         Some(Command::Show)
+    } else if is_same(word, b"plan") {
+        Some(Command::Plan)
     } else {
         None
     }
@@ -268,12 +275,69 @@ fn show_source<S: Source, K: Sink>(alloc: Global, source: &mut S, sink: &mut K) 
     read_and_show(alloc, source, sink)
 }
 
+// Prints the plan of these bytes.
+fn plan_bytes<K: Sink>(alloc: Global, bytes: &[u8], sink: &mut K) -> Status
+    requires { length bytes.now ≤ most_input }
+    ensures plans { (left : Option (List ℕ)) → IsAtEnd left
+        → Plans (K.taken sink.old) (K.taken sink.new) left result bytes.now }
+    ensures cause { IsRunStatus result (K.lost sink.old) (K.lost sink.new) }
+    ensures nothing { RunsNothing result → sink.new ≡ sink.old }
+{
+    let text = match plan_text(alloc, bytes) {
+        Ok(text) => text,
+        Err(NeedRefusal::Fault { line, rule }) => return Status::ScriptFault { line, rule },
+        Err(NeedRefusal::NoMemory) => return Status::NoMemory,
+    };
+    match write_all(sink, text.as_slice()) {
+        Ok(()) => Status::Done,
+        Err(Failed) => Status::WriteFault,
+    }
+}
+
+// Reads the source, and prints the plan of the need that it has.
+fn read_and_plan<S: Source, K: Sink>(alloc: Global, source: &mut S, sink: &mut K) -> Status
+    ensures plans { (bytes : List ℕ)
+        × WereRead (S.left source.old) (S.left source.new) (S.reads source.old) (S.reads source.new) bytes
+        × Plans (K.taken sink.old) (K.taken sink.new) (S.left source.new) result bytes }
+    ensures nothing { RunsNothing result → sink.new ≡ sink.old }
+    ensures read { RoseFor Status.ReadFault result (S.faults source.old) (S.faults source.new) }
+    ensures write { RoseFor Status.WriteFault result (K.lost sink.old) (K.lost sink.new) }
+    ensures not_usage { result ≢ Status.Usage }
+{
+    match read_all(alloc, source, MOST_INPUT) {
+        Ok(bytes) => plan_bytes(alloc, bytes.as_slice(), sink),
+        Err(ReadRefusal::ReadFault) => Status::ReadFault,
+        Err(ReadRefusal::TooLong) => Status::TooLong,
+        Err(ReadRefusal::NoMemory) => Status::NoMemory,
+    }
+}
+
+// The same, and what it owes to a source that tells its bytes.
+fn plan_source<S: Source, K: Sink>(alloc: Global, source: &mut S, sink: &mut K) -> Status
+    ensures plans { (bytes : List ℕ)
+        × WereRead (S.left source.old) (S.left source.new) (S.reads source.old) (S.reads source.new) bytes
+        × Plans (K.taken sink.old) (K.taken sink.new) (S.left source.new) result bytes }
+    ensures planned { IfSome (S.left source.old) (λ bytes. IsPlanned bytes
+        (Rose (S.faults source.old) (S.faults source.new)) (Rose (K.lost sink.old) (K.lost sink.new)) result) }
+    ensures faulty { IfSome (S.left source.old) (λ bytes. TellsNeedFault bytes
+        (Rose (S.faults source.old) (S.faults source.new)) result) }
+    ensures too_long { IfSome (S.left source.old) (λ bytes. TellsLength bytes
+        (Rose (S.faults source.old) (S.faults source.new)) result) }
+    ensures nothing { RunsNothing result → sink.new ≡ sink.old }
+    ensures read { RoseFor Status.ReadFault result (S.faults source.old) (S.faults source.new) }
+    ensures write { RoseFor Status.WriteFault result (K.lost sink.old) (K.lost sink.new) }
+    ensures not_usage { result ≢ Status.Usage }
+{
+    read_and_plan(alloc, source, sink)
+}
+
 /// Does what the words ask.
 ///
 /// `run` reads a script from the source, runs it over the keeper's rows with the provider's keys, and writes the
 /// journal to the sink, each event's line before the next event. A fault of keeper or provider is a journal line, and
 /// the run goes on. `show` reads a
-/// card-verifiable certificate and prints its fields, or why the input is none.
+/// card-verifiable certificate and prints its fields, or why the input is none. `plan` reads a need and prints the
+/// fewest renewals that leave none of its days without a certificate, or the first day that no plan covers.
 ///
 /// [`Status`] says when each status comes.
 pub fn run_tool<S: Source, K: Sink, B: Keeper, P: SignatureProvider>(
@@ -299,8 +363,15 @@ pub fn run_tool<S: Source, K: Sink, B: Keeper, P: SignatureProvider>(
         (objects S.Stream K.Stream B.Keeper P.SignatureProvider source.old sink.old keeper.old provider.old)
         (objects S.Stream K.Stream B.Keeper P.SignatureProvider source.new sink.new keeper.new provider.new)
         result.status }
-    // `show` asks for no row and no key, and an input that isn't run leaves sink, keeper and provider alone.
+    ensures plan { command_of words.now ≡ Some Command.Plan
+        → PlanCall
+        (objects S.Stream K.Stream B.Keeper P.SignatureProvider source.old sink.old keeper.old provider.old)
+        (objects S.Stream K.Stream B.Keeper P.SignatureProvider source.new sink.new keeper.new provider.new)
+        result.status }
+    // `show` and `plan` ask for no row and no key, and an input that isn't run leaves sink, keeper and provider alone.
     ensures show_keeps { command_of words.now ≡ Some Command.Show → (result.done ≡ 0) × (keeper.new ≡ keeper.old)
+        × (provider.new ≡ provider.old) }
+    ensures plan_keeps { command_of words.now ≡ Some Command.Plan → (result.done ≡ 0) × (keeper.new ≡ keeper.old)
         × (provider.new ≡ provider.old) }
     ensures nothing { RunsNothing result.status → (sink.new ≡ sink.old) × (keeper.new ≡ keeper.old)
         × (provider.new ≡ provider.old) }
@@ -317,6 +388,10 @@ pub fn run_tool<S: Source, K: Sink, B: Keeper, P: SignatureProvider>(
         }
         Some(Command::Show) => {
             let status = show_source(alloc, source, sink);
+            reported(alloc, status, 0)
+        }
+        Some(Command::Plan) => {
+            let status = plan_source(alloc, source, sink);
             reported(alloc, status, 0)
         }
     }
