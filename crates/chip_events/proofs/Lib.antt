@@ -1,0 +1,16 @@
+pub mod Acknowledging
+pub mod CrashLaws
+pub mod DiskOpenings
+pub mod FirstChip
+pub mod GivenChips
+pub mod GivenNext
+pub mod HandTurns
+pub mod ImportTurns
+pub mod ImportedChips
+pub mod LookTurns
+pub mod MadeChips
+pub mod MadeTurns
+pub mod OpenedActs
+pub mod OpenedChips
+pub mod Showing
+pub mod Untouched

@@ -1,0 +1,11 @@
+pub mod Acts
+pub mod Crashes
+pub mod DiskTurns
+pub mod Events
+pub mod Givings
+pub mod Held
+pub mod Imports
+pub mod Makings
+pub mod Openings
+pub mod Told
+pub mod Verdicts
