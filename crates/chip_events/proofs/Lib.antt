@@ -13,4 +13,5 @@ pub mod MadeTurns
 pub mod OpenedActs
 pub mod OpenedChips
 pub mod Showing
+pub mod TakenAsked
 pub mod Untouched

@@ -1,4 +1,5 @@
 pub mod Acts
+pub mod Asked
 pub mod Crashes
 pub mod DiskTurns
 pub mod Events

@@ -14,6 +14,8 @@ ghost use Rattle.chip_events.specs.declared.answers.ImportAnswer.{ImportAnswer};
 ghost use Rattle.chip_events.specs.declared.answers.MakeAnswer.{MakeAnswer};
 ghost use Rattle.chip_events.specs.declared.answers.Shown.{Shown};
 ghost use Rattle.chip_events.specs.declared.count.ImportCount.{ImportCount};
+ghost use Rattle.chip_events.specs.Asked.{TakesAsked};
+ghost use Rattle.chip_events.specs.Verdicts.{Verdict};
 ghost use Rattle.chip_events.specs.Told.{ChipTold, ChipPart};
 ghost use Rattle.chip_events.specs.Held.{IsChipAt, IsChipOf, first_of};
 ghost use Rattle.chip_events.specs.DiskTurns.{OpensTo, HandTurn, ProvidedTurn};
@@ -81,4 +83,17 @@ pub fn events_keep_acknowledgements()
         ImportsOne chip bytes s result s' → KeepsAcks chip s.chip.acts s'.chip.acts s.acks s'.acks }
     ensures presents { (chip : ℕ) (certs : List (List ℕ)) (s s' : ChipPart) (result : Result Shown NoMemory) →
         Presents chip certs s result s' → KeepsAcks chip s.chip.acts s'.chip.acts s.acks s'.acks }
+{}
+
+/// An import that was answered, and newly took its bytes, was asked for in its event: the provider said yes to the signature
+/// of the certificate that they are. An act that a reading of the slots found or lost is none of these.
+pub fn what_was_taken_was_asked()
+    ensures opens { (c c' : ChipTold) (read : Result (Trust × ℕ) ChipRefusal) (verdicts : List Verdict) →
+        Opens c read c' → TakesAsked c.acts c'.acts verdicts verdicts }
+    ensures makes { (root : Result Cert CvcRefusal) (day : ℕ) (c c' : ChipTold) (answer : MakeAnswer)
+        (verdicts : List Verdict) → MakesSo root day c answer c' → TakesAsked c.acts c'.acts verdicts verdicts }
+    ensures imports { (chip : ℕ) (bytes : List ℕ) (s s' : ChipPart) (result : Result ImportAnswer NoMemory) →
+        ImportsOne chip bytes s result s' → TakesAsked s.chip.acts s'.chip.acts s.verdicts s'.verdicts }
+    ensures presents { (chip : ℕ) (certs : List (List ℕ)) (s s' : ChipPart) (result : Result Shown NoMemory) →
+        Presents chip certs s result s' → TakesAsked s.chip.acts s'.chip.acts s.verdicts s'.verdicts }
 {}
