@@ -5,6 +5,8 @@ use Rattle.std.specs.declared.option.Option.{Option}
 use Rattle.std.specs.Io.KnownBytes.{Consumes, IsAtEnd}
 use Rattle.eac_base.specs.Causes.{Rose}
 use Rattle.eac_base.specs.Streaming.{TurnsAtMost}
+use Rattle.eac_base.specs.declared.acks.Ack.{Ack}
+use Rattle.chip_slots.specs.declared.disk.ChipDisk.{Ghosts as DiskOf}
 use Rattle.policy_limits.specs.Setup.{SetupValue}
 use Rattle.eac_cli.specs.declared.event.EventLine.{EventLine}
 use Rattle.eac_cli.specs.declared.running.Stop.{Stop}
@@ -16,23 +18,28 @@ use Rattle.eac_cli.specs.Script.{IsScript, IsFault}
 use Rattle.eac_cli.specs.Top.{Shows, IsShown, WasRead, Ran, Whole, Stopped, Claim, IsComplete, TellsFault, TellsLength, RunCall, ShowCall, WereRead, RoseFor, RunsNothing, IsRunStatus, status_of, most_input}
 use Rattle.eac_cli.proofs.Orders.{no_fault, fault_is_one}
 
-module _ (o n : RunObjects) (left : Option (List ℕ)) (bytes : List ℕ) (done : ℕ) where
-  ended : (stop : Option Stop) (setup : SetupValue) (lines : List EventLine) → WasRead left bytes → IsScript bytes setup lines → (stop ≡ None → Whole setup o n lines done) → IfSome stop (λ x. Stopped setup o n x lines done) → Claim o n left (status_of stop) done bytes
+module _ {D : Type 0} (G : DiskOf D) (o n : RunObjects D) (left : Option (List ℕ)) (bytes : List ℕ) (done : ℕ) (acks : List Ack) where
+  ended : (stop : Option Stop) (setup : SetupValue) (lines : List EventLine) → WasRead left bytes → IsScript bytes (length o.disks) setup lines → (stop ≡ None → Whole G setup o n lines done acks) → IfSome stop (λ x. Stopped G setup o n x lines done acks) → Claim G o n left (status_of stop) done acks bytes
   ended None setup lines all is whole some = record { read = all; setup = setup; lines = lines; script = is; did = whole refl }
   ended (Some StopWriteFault) setup lines all is whole some = record { read = all; setup = setup; lines = lines; script = is; did = some }
   ended (Some StopNoMemory) setup lines all is whole some = inr (record { read = all; setup = setup; lines = lines; script = is; did = some })
 
-  pub run_claim : (stop : Option Stop) (status : Status) (setup : SetupValue) (lines slice : List EventLine) → status ≡ status_of stop → slice ≡ lines → WasRead left bytes → IsScript bytes setup lines → (stop ≡ None → Whole setup o n slice done) → IfSome stop (λ x. Stopped setup o n x slice done) → Claim o n left status done bytes
-  run_claim stop status setup lines slice e same all is whole some =
-      subst (λ x. Claim o n left x done bytes) (sym e) (ended stop setup slice all (subst (IsScript bytes setup) (sym same) is) whole some)
+  pub run_claim : (stop : Option Stop) (status : Status) (chips : ℕ) (setup : SetupValue) (lines slice : List EventLine) → status ≡ status_of stop → chips ≡ length o.disks → slice ≡ lines → WasRead left bytes → IsScript bytes chips setup lines → (stop ≡ None → Whole G setup o n slice done acks) → IfSome stop (λ x. Stopped G setup o n x slice done acks) → Claim G o n left status done acks bytes
+  run_claim stop status chips setup lines slice e count same all is whole some =
+      let script : IsScript bytes (length o.disks) setup slice = subst (λ (x : ℕ × List EventLine). IsScript bytes x.0 setup x.1) (λ j. (count j, sym same j)) is in
+      subst (λ x. Claim G o n left x done acks bytes) (sym e) (ended stop setup slice all script whole some)
 
-module _ (setup : SetupValue) (o n : RunObjects) (lines : List EventLine) (done : ℕ) where
-  stop_cause : (stop : Option Stop) → (stop ≡ None → Whole setup o n lines done) → IfSome stop (λ x. Stopped setup o n x lines done) → IsRunStatus (status_of stop) o.lost n.lost
+  -- the fault of a script over these chips
+  pub fault_claim : (chips line rule : ℕ) → chips ≡ length o.disks → done ≡ 0 → acks ≡ [] → n ≡ o → WasRead left bytes → IsFault bytes chips line rule → Claim G o n left (ScriptFault line rule) done acks bytes
+  fault_claim chips line rule count zero none same all fault = (all, subst (λ (k : ℕ). IsFault bytes k line rule) count fault, (zero, none, same))
+
+module _ {D : Type 0} (G : DiskOf D) (setup : SetupValue) (o n : RunObjects D) (lines : List EventLine) (done : ℕ) (acks : List Ack) where
+  stop_cause : (stop : Option Stop) → (stop ≡ None → Whole G setup o n lines done acks) → IfSome stop (λ x. Stopped G setup o n x lines done acks) → IsRunStatus (status_of stop) o.lost n.lost
   stop_cause None whole some = (whole refl).quiet
   stop_cause (Some StopWriteFault) whole some = some.sent.5
   stop_cause (Some StopNoMemory) whole some = some.sent.2
 
-  pub run_cause : (stop : Option Stop) (status : Status) → status ≡ status_of stop → (stop ≡ None → Whole setup o n lines done) → IfSome stop (λ x. Stopped setup o n x lines done) → IsRunStatus status o.lost n.lost
+  pub run_cause : (stop : Option Stop) (status : Status) → status ≡ status_of stop → (stop ≡ None → Whole G setup o n lines done acks) → IfSome stop (λ x. Stopped G setup o n x lines done acks) → IsRunStatus status o.lost n.lost
   run_cause stop status e whole some = subst (λ x. IsRunStatus x o.lost n.lost) (sym e) (stop_cause stop whole some)
 
 -- ---- counts
@@ -91,41 +98,44 @@ all_read all bytes rest e none = sym (e ∙ ap (λ (l : List ℕ). bytes ++ l) n
 pub no_longer : (all bytes rest : List ℕ) → all ≡ bytes ++ rest → length bytes ≤ length all
 no_longer all bytes rest e = omega (arith, ap length e, length-append bytes rest)
 
-module _ (o n : RunObjects) (all bytes rest : List ℕ) (done : ℕ) (e : all ≡ bytes ++ rest) (R W : Type 0) where
+module _ {D : Type 0} (G : DiskOf D) (o n : RunObjects D) (all bytes rest : List ℕ) (done : ℕ) (acks : List Ack) (e : all ≡ bytes ++ rest) (R W : Type 0) where
   -- what was read within the limit is all
   within_all : WasRead (Some rest) bytes → bytes ≡ all
   within_all read = all_read all bytes rest e read.0
 
-  script_all : (How : SetupValue → List EventLine → Type 0) → (r : Ran (Some rest) bytes How) → IsScript all r.setup r.lines
-  script_all How r = subst (λ b. IsScript b r.setup r.lines) (within_all r.read) r.script
+  abbrev chips : ℕ
+  chips = length o.disks
 
-  fault_all : (line rule : ℕ) → WasRead (Some rest) bytes → IsFault bytes line rule → IsFault all line rule
-  fault_all line rule read f = subst (λ b. IsFault b line rule) (within_all read) f
+  script_all : (How : SetupValue → List EventLine → Type 0) → (r : Ran (Some rest) bytes chips How) → IsScript all chips r.setup r.lines
+  script_all How r = subst (λ b. IsScript b chips r.setup r.lines) (within_all r.read) r.script
+
+  fault_all : (line rule : ℕ) → WasRead (Some rest) bytes → IsFault bytes chips line rule → IsFault all chips line rule
+  fault_all line rule read f = subst (λ b. IsFault b chips line rule) (within_all read) f
 
   not_long : WasRead (Some rest) bytes → most_input < length all → ⊥
   not_long read long = omega (arith, read.1, long, ap length (within_all read))
 
-  complete_at : (status : Status) → Claim o n (Some rest) status done bytes → (status ≡ ReadFault → R) → (status ≡ WriteFault → W) → IsComplete all R W status
+  complete_at : (status : Status) → Claim G o n (Some rest) status done acks bytes → (status ≡ ReadFault → R) → (status ≡ WriteFault → W) → IsComplete all chips R W status
   complete_at Done c read write setup lines is within no_read no_write = inl refl
   complete_at Usage c read write setup lines is within no_read no_write = absurd c
-  complete_at (ScriptFault line rule) c read write setup lines is within no_read no_write = absurd (no_fault all setup lines line rule is (fault_all line rule c.0 c.1))
+  complete_at (ScriptFault line rule) c read write setup lines is within no_read no_write = absurd (no_fault all chips setup lines line rule is (fault_all line rule c.0 c.1))
   complete_at TooLong c read write setup lines is within no_read no_write = absurd (omega (arith, c.0, within, no_longer all bytes rest e))
   complete_at ReadFault c read write setup lines is within no_read no_write = absurd (no_read (read refl))
   complete_at WriteFault c read write setup lines is within no_read no_write = absurd (no_write (write refl))
   complete_at NoMemory c read write setup lines is within no_read no_write = inr refl
 
-  fault_at : (status : Status) → Claim o n (Some rest) status done bytes → (status ≡ ReadFault → R) → TellsFault all R status
-  fault_at Done c read line rule is within no_read = absurd (no_fault all c.setup c.lines line rule (script_all _ c) is)
+  fault_at : (status : Status) → Claim G o n (Some rest) status done acks bytes → (status ≡ ReadFault → R) → TellsFault all chips R status
+  fault_at Done c read line rule is within no_read = absurd (no_fault all chips c.setup c.lines line rule (script_all _ c) is)
   fault_at Usage c read line rule is within no_read = absurd c
   fault_at (ScriptFault l r) c read line rule is within no_read =
-      let one = fault_is_one all l r line rule (fault_all l r c.0 c.1) is in
+      let one = fault_is_one all chips l r line rule (fault_all l r c.0 c.1) is in
       inl (λ i. ScriptFault (one.0 i) (one.1 i))
   fault_at TooLong c read line rule is within no_read = absurd (omega (arith, c.0, within, no_longer all bytes rest e))
   fault_at ReadFault c read line rule is within no_read = absurd (no_read (read refl))
-  fault_at WriteFault c read line rule is within no_read = absurd (no_fault all c.setup c.lines line rule (script_all _ c) is)
+  fault_at WriteFault c read line rule is within no_read = absurd (no_fault all chips c.setup c.lines line rule (script_all _ c) is)
   fault_at NoMemory c read line rule is within no_read = inr refl
 
-  long_at : (status : Status) → Claim o n (Some rest) status done bytes → (status ≡ ReadFault → R) → TellsLength all R status
+  long_at : (status : Status) → Claim G o n (Some rest) status done acks bytes → (status ≡ ReadFault → R) → TellsLength all R status
   long_at Done c read long no_read = absurd (not_long c.read long)
   long_at Usage c read long no_read = absurd c
   long_at (ScriptFault l r) c read long no_read = absurd (not_long c.0 long)
@@ -134,24 +144,27 @@ module _ (o n : RunObjects) (all bytes rest : List ℕ) (done : ℕ) (e : all �
   long_at WriteFault c read long no_read = absurd (not_long c.read long)
   long_at NoMemory c read long no_read = inr refl
 
-module _ (before after : Objects) (status : Status) (done : ℕ) where
-  complete : (left left' : Option (List ℕ)) (reads reads' : Option ℕ) → (bytes : List ℕ) × WereRead left left' reads reads' bytes × Claim before.run after.run left' status done bytes → (status ≡ ReadFault → ReadFailed before after) → (status ≡ WriteFault → WriteFailed before.run after.run) → IfSome left (λ all. IsComplete all (ReadFailed before after) (WriteFailed before.run after.run) status)
+module _ {D : Type 0} (G : DiskOf D) (before after : Objects D) (status : Status) (done : ℕ) (acks : List Ack) where
+  abbrev WasRun : (left left' : Option (List ℕ)) (reads reads' : Option ℕ) → Type 0
+  WasRun left left' reads reads' = (bytes : List ℕ) × WereRead left left' reads reads' bytes × Claim G before.run after.run left' status done acks bytes
+
+  complete : (left left' : Option (List ℕ)) (reads reads' : Option ℕ) → WasRun left left' reads reads' → (status ≡ ReadFault → ReadFailed before after) → (status ≡ WriteFault → WriteFailed before.run after.run) → IfSome left (λ all. IsComplete all (length before.run.disks) (ReadFailed before after) (WriteFailed before.run after.run) status)
   complete None left' reads reads' h read write = tt
   complete (Some all) None reads reads' h read write = absurd h.1.taken
-  complete (Some all) (Some rest) reads reads' h read write = complete_at before.run after.run all h.0 rest done h.1.taken _ _ status h.2 read write
+  complete (Some all) (Some rest) reads reads' h read write = complete_at G before.run after.run all h.0 rest done acks h.1.taken _ _ status h.2 read write
 
-  faulty : (left left' : Option (List ℕ)) (reads reads' : Option ℕ) → (bytes : List ℕ) × WereRead left left' reads reads' bytes × Claim before.run after.run left' status done bytes → (status ≡ ReadFault → ReadFailed before after) → IfSome left (λ all. TellsFault all (ReadFailed before after) status)
+  faulty : (left left' : Option (List ℕ)) (reads reads' : Option ℕ) → WasRun left left' reads reads' → (status ≡ ReadFault → ReadFailed before after) → IfSome left (λ all. TellsFault all (length before.run.disks) (ReadFailed before after) status)
   faulty None left' reads reads' h read = tt
   faulty (Some all) None reads reads' h read = absurd h.1.taken
-  faulty (Some all) (Some rest) reads reads' h read = fault_at before.run after.run all h.0 rest done h.1.taken _ (Unit {0}) status h.2 read
+  faulty (Some all) (Some rest) reads reads' h read = fault_at G before.run after.run all h.0 rest done acks h.1.taken _ (Unit {0}) status h.2 read
 
-  too_long : (left left' : Option (List ℕ)) (reads reads' : Option ℕ) → (bytes : List ℕ) × WereRead left left' reads reads' bytes × Claim before.run after.run left' status done bytes → (status ≡ ReadFault → ReadFailed before after) → IfSome left (λ all. TellsLength all (ReadFailed before after) status)
+  too_long : (left left' : Option (List ℕ)) (reads reads' : Option ℕ) → WasRun left left' reads reads' → (status ≡ ReadFault → ReadFailed before after) → IfSome left (λ all. TellsLength all (ReadFailed before after) status)
   too_long None left' reads reads' h read = tt
   too_long (Some all) None reads reads' h read = absurd h.1.taken
-  too_long (Some all) (Some rest) reads reads' h read = long_at before.run after.run all h.0 rest done h.1.taken _ (Unit {0}) status h.2 read
+  too_long (Some all) (Some rest) reads reads' h read = long_at G before.run after.run all h.0 rest done acks h.1.taken _ (Unit {0}) status h.2 read
 
   -- a whole call of `run`
-  pub run_call : (bytes : List ℕ) × WereRead before.left after.left before.reads after.reads bytes × Claim before.run after.run after.left status done bytes → RoseFor ReadFault status before.read_faults after.read_faults → RoseFor WriteFault status before.run.lost after.run.lost → RunCall before after status done
+  pub run_call : WasRun before.left after.left before.reads after.reads → RoseFor ReadFault status before.read_faults after.read_faults → RoseFor WriteFault status before.run.lost after.run.lost → RunCall G before after status done acks
   run_call claim reads writes = let read = reads.0 in let write = writes.0 in record {
     claim = claim;
     complete = complete before.left after.left before.reads after.reads claim read write;
@@ -193,10 +206,6 @@ module _ (s t : Option (List ℕ)) (status : Status) (R W : Type 0) where
 
 -- ---- what is reported
 
-pub run_reported : (before after : Objects) (status told : Status) (done count : ℕ) → told ≡ status → count ≡ done → RunCall before after status done → RunCall before after told count
-run_reported before after status told done count same all call =
-    subst (λ (x : Status × ℕ). RunCall before after x.0 x.1) (λ i. (sym same i, sym all i)) call
-
-pub show_call : (before after : Objects) (status told : Status) → told ≡ status → (bytes : List ℕ) × WereRead before.left after.left before.reads after.reads bytes × Shows before.run.taken after.run.taken after.left status bytes → IfSome before.left (λ bytes. IsShown bytes (ReadFailed before after) (WriteFailed before.run after.run) status) → IfSome before.left (λ bytes. TellsLength bytes (ReadFailed before after) status) → ShowCall before after told
+pub show_call : {D : Type 0} (before after : Objects D) (status told : Status) → told ≡ status → (bytes : List ℕ) × WereRead before.left after.left before.reads after.reads bytes × Shows before.run.taken after.run.taken after.left status bytes → IfSome before.left (λ bytes. IsShown bytes (ReadFailed before after) (WriteFailed before.run after.run) status) → IfSome before.left (λ bytes. TellsLength bytes (ReadFailed before after) status) → ShowCall before after told
 show_call before after status told same shows shown too_long =
     subst (ShowCall before after) (sym same) (record { shows = shows; shown = shown; too_long = too_long })

@@ -60,28 +60,28 @@ not_before (Some today) None fine = omega arith
 not_before (Some today) (Some day) fine = ltb-false day today (falls (nat_lt day today) fine)
 
 -- Each event line names an event, or none; those that are named are in order, and the day in force goes along.
-abbrev pub AllWithin : List (ℕ × NamedEvent) → Type 0
-AllWithin [] = Unit {0}
-AllWithin (line ∷ lines) = IsWithin line.1 × AllWithin lines
+abbrev pub AllWithin : (chips : ℕ) → List (ℕ × NamedEvent) → Type 0
+AllWithin chips [] = Unit {0}
+AllWithin chips (line ∷ lines) = IsWithin chips line.1 × AllWithin chips lines
 
-place_step : (setup : SetupValue) (today : Option ℕ) (n : ℕ) (event : NamedEvent) (named : Option Event) (rest : List EventLine) → event_in setup event ≡ named → IsWithin event → order_rule today (day_begun event) ≡ None → InOrder (option_or (day_begun event) today) rest → InOrder today (cons_option (option_map (λ (e : Event). record { line = n; event = e }) named) rest)
-place_step setup today n event None rest is within fine order =
+place_step : (chips : ℕ) (setup : SetupValue) (today : Option ℕ) (n : ℕ) (event : NamedEvent) (named : Option Event) (rest : List EventLine) → event_in setup event ≡ named → IsWithin chips event → order_rule today (day_begun event) ≡ None → InOrder (option_or (day_begun event) today) rest → InOrder today (cons_option (option_map (λ (e : Event). record { line = n; event = e }) named) rest)
+place_step chips setup today n event None rest is within fine order =
     subst (λ (begun : Option ℕ). InOrder (option_or begun today) rest) (none_begins setup event is) order
-place_step setup today n event (Some e) rest is within fine order =
-    let f : Fits setup event e = named_fits setup event e within is in (
+place_step chips setup today n event (Some e) rest is within fine order =
+    let f : Fits chips setup event e = named_fits chips setup event e within is in (
       record { day = f.has today fine; later = subst (IsNotBefore today) (sym (f.later today)) (not_before today (day_begun event) fine) },
       subst (λ (d : Option ℕ). InOrder d rest) (sym (f.later today)) order,
     )
 
-order_after : (setup : SetupValue) (earlier lines : List Line) → AllWithin (named_of lines) → Unbroken earlier lines → InOrder (day_after earlier) (events_of setup lines)
-order_after setup earlier [] within fine = tt
-order_after setup earlier ((n, InSetup text) ∷ lines) within fine =
-    subst (λ d. InOrder d (events_of setup lines)) (day_more earlier ((n, InSetup text) ∷ [])) (order_after setup (earlier ++ (n, InSetup text) ∷ []) lines within fine.1)
-order_after setup earlier ((n, Alone (Ok event)) ∷ lines) within fine =
-    place_step setup (day_after earlier) n event (event_in setup event) (events_of setup lines) refl within.0
+order_after : (chips : ℕ) (setup : SetupValue) (earlier lines : List Line) → AllWithin chips (named_of lines) → Unbroken earlier lines → InOrder (day_after earlier) (events_of setup lines)
+order_after chips setup earlier [] within fine = tt
+order_after chips setup earlier ((n, InSetup text) ∷ lines) within fine =
+    subst (λ d. InOrder d (events_of setup lines)) (day_more earlier ((n, InSetup text) ∷ [])) (order_after chips setup (earlier ++ (n, InSetup text) ∷ []) lines within fine.1)
+order_after chips setup earlier ((n, Alone (Ok event)) ∷ lines) within fine =
+    place_step chips setup (day_after earlier) n event (event_in setup event) (events_of setup lines) refl within.0
     (in_order_behind (setup_of earlier) (day_after earlier) (length (named_of earlier)) event fine.0)
-    (subst (λ d. InOrder d (events_of setup lines)) (day_more earlier ((n, Alone (Ok event)) ∷ [])) (order_after setup (earlier ++ (n, Alone (Ok event)) ∷ []) lines within.1 fine.1))
-order_after setup earlier ((n, Alone (Err rule)) ∷ lines) within fine = absurd (never_some rule fine.0)
+    (subst (λ d. InOrder d (events_of setup lines)) (day_more earlier ((n, Alone (Ok event)) ∷ [])) (order_after chips setup (earlier ++ (n, Alone (Ok event)) ∷ []) lines within.1 fine.1))
+order_after chips setup earlier ((n, Alone (Err rule)) ∷ lines) within fine = absurd (never_some rule fine.0)
 
 -- ---- a script is short
 
@@ -130,8 +130,8 @@ two_parts earlier ((n, Alone (Ok event)) ∷ lines) none fine = record {
 }
 two_parts earlier ((n, Alone (Err rule)) ∷ lines) none fine = absurd (never_some rule fine.0)
 
-pub in_two_parts : (bytes : List ℕ) (setup : SetupValue) (events : List EventLine) → IsScript bytes setup events → IsInTwoParts (lines_read bytes)
-in_two_parts bytes setup events s = two_parts [] (lines_read bytes) refl s.fine
+pub in_two_parts : (bytes : List ℕ) (chips : ℕ) (setup : SetupValue) (events : List EventLine) → IsScript bytes chips setup events → IsInTwoParts (lines_read chips bytes)
+in_two_parts bytes chips setup events s = two_parts [] (lines_read chips bytes) refl s.fine
 
 -- ---- no event is lost
 
@@ -163,22 +163,22 @@ all_named setup earlier ((n, Alone (Ok event)) ∷ lines) fine is =
     omega (arith, more, rest)
 all_named setup earlier ((n, Alone (Err rule)) ∷ lines) fine is = absurd (never_some rule fine.0)
 
-pub none_lost : (bytes : List ℕ) (setup : SetupValue) (events : List EventLine) → IsScript bytes setup events → length events ≡ length (named_of (lines_read bytes))
-none_lost bytes setup events s = ap length s.events_are ∙ all_named setup [] (lines_read bytes) s.fine s.setup_is
+pub none_lost : (bytes : List ℕ) (chips : ℕ) (setup : SetupValue) (events : List EventLine) → IsScript bytes chips setup events → length events ≡ length (named_of (lines_read chips bytes))
+none_lost bytes chips setup events s = ap length s.events_are ∙ all_named setup [] (lines_read chips bytes) s.fine s.setup_is
 
-pub short : (bytes : List ℕ) (setup : SetupValue) (events : List EventLine) → IsScript bytes setup events → length events ≤ 20000
-short bytes setup events s = omega (arith, none_lost bytes setup events s, count_after [] (lines_read bytes) (lit≤ tt) s.fine)
+pub short : (bytes : List ℕ) (chips : ℕ) (setup : SetupValue) (events : List EventLine) → IsScript bytes chips setup events → length events ≤ 20000
+short bytes chips setup events s = omega (arith, none_lost bytes chips setup events s, count_after [] (lines_read chips bytes) (lit≤ tt) s.fine)
 
-pub in_order : (bytes : List ℕ) (setup : SetupValue) (events : List EventLine) → AllWithin (named_of (lines_read bytes)) → IsScript bytes setup events → InOrder None events
-in_order bytes setup events within s = subst (InOrder None) (sym s.events_are) (order_after setup [] (lines_read bytes) within s.fine)
+pub in_order : (bytes : List ℕ) (chips : ℕ) (setup : SetupValue) (events : List EventLine) → AllWithin chips (named_of (lines_read chips bytes)) → IsScript bytes chips setup events → InOrder None events
+in_order bytes chips setup events within s = subst (InOrder None) (sym s.events_are) (order_after chips setup [] (lines_read chips bytes) within s.fine)
 
 -- ---- setup and events are one
 
 ok_same : (r : Result SetupValue SetupRefusal) (setup setup' : SetupValue) → r ≡ Ok setup → r ≡ Ok setup' → setup ≡ setup'
 ok_same r setup setup' e e' = cc
 
-pub setup_is_one : (bytes : List ℕ) (setup setup' : SetupValue) (events events' : List EventLine) → IsScript bytes setup events → IsScript bytes setup' events' → setup ≡ setup'
-setup_is_one bytes setup setup' events events' s t = ok_same (setup_of (lines_read bytes)) setup setup' s.setup_is t.setup_is
+pub setup_is_one : (bytes : List ℕ) (chips : ℕ) (setup setup' : SetupValue) (events events' : List EventLine) → IsScript bytes chips setup events → IsScript bytes chips setup' events' → setup ≡ setup'
+setup_is_one bytes chips setup setup' events events' s t = ok_same (setup_of (lines_read chips bytes)) setup setup' s.setup_is t.setup_is
 
 -- ---- a script has no fault
 
@@ -193,8 +193,8 @@ no_rule o rule none some = differ (ap (option_map rule_number) (sym none) ∙ so
     differ : None ≡ Some rule → ⊥
     differ e = cc
 
-pub no_fault : (bytes : List ℕ) (setup : SetupValue) (events : List EventLine) (line rule : ℕ) → IsScript bytes setup events → IsFault bytes line rule → ⊥
-no_fault bytes setup events line rule s f =
+pub no_fault : (bytes : List ℕ) (chips : ℕ) (setup : SetupValue) (events : List EventLine) (line rule : ℕ) → IsScript bytes chips setup events → IsFault bytes chips line rule → ⊥
+no_fault bytes chips setup events line rule s f =
     no_rule (broken f.front (line, f.said)) rule (unbroken_at [] f.front (line, f.said) f.back (subst (Unbroken []) f.cut s.fine)) f.breaks
 
 -- ---- a fault is one
@@ -229,6 +229,6 @@ same_fault earlier (first ∷ front) (first' ∷ front') line line' read read' b
     (subst (λ l. option_map rule_number (broken l (line, read)) ≡ Some rule) (sym (append_assoc earlier (first ∷ []) front)) breaks)
     (subst (λ l. option_map rule_number (broken l (line', read')) ≡ Some rule') (sym (append_assoc earlier (first' ∷ []) front') ∙ ap (λ l. (earlier ++ l ∷ []) ++ front') (sym (ap first_of e))) breaks')
 
-pub fault_is_one : (bytes : List ℕ) (line rule line' rule' : ℕ) → IsFault bytes line rule → IsFault bytes line' rule' → (line ≡ line') × (rule ≡ rule')
-fault_is_one bytes line rule line' rule' f g =
+pub fault_is_one : (bytes : List ℕ) (chips : ℕ) (line rule line' rule' : ℕ) → IsFault bytes chips line rule → IsFault bytes chips line' rule' → (line ≡ line') × (rule ≡ rule')
+fault_is_one bytes chips line rule line' rule' f g =
     same_fault [] f.front g.front line line' f.said g.said f.back g.back rule rule' (sym f.cut ∙ g.cut) f.fine g.fine f.breaks g.breaks

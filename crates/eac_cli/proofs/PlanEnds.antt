@@ -71,6 +71,6 @@ module _ (s t : Option (List ℕ)) (status : Status) (R W : Type 0) where
   planned_length (Some all) None reads reads' h read = absurd h.1.taken
   planned_length (Some all) (Some rest) reads reads' h read = length_at s t all h.0 rest h.1.taken R W status h.2 read
 
-pub plan_call : (before after : Objects) (status told : Status) → told ≡ status → (bytes : List ℕ) × WereRead before.left after.left before.reads after.reads bytes × Plans before.run.taken after.run.taken after.left status bytes → IfSome before.left (λ bytes. IsPlanned bytes (ReadFailed before after) (WriteFailed before.run after.run) status) → IfSome before.left (λ bytes. TellsNeedFault bytes (ReadFailed before after) status) → IfSome before.left (λ bytes. TellsLength bytes (ReadFailed before after) status) → PlanCall before after told
+pub plan_call : {D : Type 0} (before after : Objects D) (status told : Status) → told ≡ status → (bytes : List ℕ) × WereRead before.left after.left before.reads after.reads bytes × Plans before.run.taken after.run.taken after.left status bytes → IfSome before.left (λ bytes. IsPlanned bytes (ReadFailed before after) (WriteFailed before.run after.run) status) → IfSome before.left (λ bytes. TellsNeedFault bytes (ReadFailed before after) status) → IfSome before.left (λ bytes. TellsLength bytes (ReadFailed before after) status) → PlanCall before after told
 plan_call before after status told same plans planned faulty too_long =
     subst (PlanCall before after) (sym same) (record { plans = plans; planned = planned; faulty = faulty; too_long = too_long })

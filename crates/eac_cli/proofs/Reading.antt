@@ -20,9 +20,9 @@ use Rattle.eac_cli.specs.declared.line_rule.LineRule.TheVariants.{TooLate}
 use Rattle.eac_cli.specs.declared.named_event.NamedEvent.{NamedEvent}
 
 -- The lines up to line `last` are read and break no rule, and `rest` is left of the bytes.
-pub record Reading (bytes rest : List ℕ) (last : ℕ) (setup : SetupValue) (today : Option ℕ) (events : List EventLine) : Type 0 where
+pub record Reading (chips : ℕ) (bytes rest : List ℕ) (last : ℕ) (setup : SetupValue) (today : Option ℕ) (events : List EventLine) : Type 0 where
   pub front : List Line
-  pub cut : lines_read bytes ≡ front ++ map line_of (numbered_from (last + 1) rest)
+  pub cut : lines_read chips bytes ≡ front ++ map (line_of chips) (numbered_from (last + 1) rest)
   pub fine : Unbroken [] front
   pub setup_is : setup_of front ≡ Ok setup
   pub today_is : today ≡ day_after front
@@ -99,8 +99,8 @@ events_behind front (Alone read) n setup setup' today events events' are count f
 
 -- ---- one line more, in a reading
 
-cut_more : (all front : List Line) (rest text after : List ℕ) (last line : ℕ) → all ≡ front ++ map line_of (numbered_from (last + 1) rest) → numbered_from (last + 1) rest ≡ (line, text) ∷ numbered_from (line + 1) after → all ≡ front ++ line_of (line, text) ∷ map line_of (numbered_from (line + 1) after)
-cut_more all front rest text after last line cut next = cut ∙ ap (λ ls. front ++ map line_of ls) next
+cut_more : (chips : ℕ) (all front : List Line) (rest text after : List ℕ) (last line : ℕ) → all ≡ front ++ map (line_of chips) (numbered_from (last + 1) rest) → numbered_from (last + 1) rest ≡ (line, text) ∷ numbered_from (line + 1) after → all ≡ front ++ line_of chips (line, text) ∷ map (line_of chips) (numbered_from (line + 1) after)
+cut_more chips all front rest text after last line cut next = cut ∙ ap (λ ls. front ++ map (line_of chips) ls) next
 
 -- What a line breaks behind the front is what it breaks behind what the front says.
 pub same_rule : (front : List Line) (setup : SetupValue) (today : Option ℕ) (count : ℕ) (line : Line) → setup_of front ≡ Ok setup → today ≡ day_after front → count ≡ length (named_of front) → broken front line ≡ broken_behind (Ok setup) today count line
@@ -109,15 +109,15 @@ same_rule front setup today count line s d c =
     ∙ ap (λ t. broken_behind (Ok setup) t (length (named_of front)) line) (sym d)
     ∙ ap (λ n. broken_behind (Ok setup) today n line) (sym c)
 
-pub reading_more : (bytes rest text after : List ℕ) (last line : ℕ) (setup setup' : SetupValue) (today today' : Option ℕ) (events events' : List EventLine) → Reading bytes rest last setup today events → numbered_from (last + 1) rest ≡ (line, text) ∷ numbered_from (line + 1) after → Takes (line_of (line, text)) setup setup' today today' events events' → Reading bytes after line setup' today' events'
-reading_more bytes rest text after last line setup setup' today today' events events' r next t =
-    let one : List Line = line_of (line, text) ∷ [] in
+pub reading_more : (chips : ℕ) (bytes rest text after : List ℕ) (last line : ℕ) (setup setup' : SetupValue) (today today' : Option ℕ) (events events' : List EventLine) → Reading chips bytes rest last setup today events → numbered_from (last + 1) rest ≡ (line, text) ∷ numbered_from (line + 1) after → Takes (line_of chips (line, text)) setup setup' today today' events events' → Reading chips bytes after line setup' today' events'
+reading_more chips bytes rest text after last line setup setup' today today' events events' r next t =
+    let one : List Line = line_of chips (line, text) ∷ [] in
     record {
       front = r.front ++ one;
-      cut = cut_more (lines_read bytes) r.front rest text after last line r.cut next ∙ sym (append_assoc r.front one (map line_of (numbered_from (line + 1) after)));
-      fine = unbroken_more [] r.front (line_of (line, text)) r.fine (same_rule r.front setup today (length events) (line_of (line, text)) r.setup_is r.today_is r.count_is ∙ t.fine);
+      cut = cut_more chips (lines_read chips bytes) r.front rest text after last line r.cut next ∙ sym (append_assoc r.front one (map (line_of chips) (numbered_from (line + 1) after)));
+      fine = unbroken_more [] r.front (line_of chips (line, text)) r.fine (same_rule r.front setup today (length events) (line_of chips (line, text)) r.setup_is r.today_is r.count_is ∙ t.fine);
       setup_is = setup_then r.front one ∙ ap (λ s. s >>= λ x. with_lines x (setup_lines one)) r.setup_is ∙ t.setup_is;
       today_is = t.day_is ∙ ap (λ d. last_day d (named_of one)) r.today_is ∙ sym (day_more r.front one);
-      events_are = events_behind r.front (line_of (line, text)).1 line setup setup' today events events' r.events_are r.count_is t.fine t.setup_is t.events_are;
+      events_are = events_behind r.front (line_of chips (line, text)).1 line setup setup' today events events' r.events_are r.count_is t.fine t.setup_is t.events_are;
       count_is = omega (arith, t.count_is, r.count_is, ap length (named_more r.front one), length-append (named_of r.front) (named_of one));
     }

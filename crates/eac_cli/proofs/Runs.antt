@@ -8,25 +8,30 @@ use Rattle.std.proofs.lemmas.List.Elements.{All-nil, All-cons, All-append, All-h
 use Rattle.std.specs.Io.KnownBytes.{Appends}
 use Rattle.std.proofs.KnownBytes.{Appends-trans, Appends-nil}
 use Rattle.eac_base.specs.Causes.{Rose}
+use Rattle.eac_base.specs.Acknowledged.{AcksValue}
+use Rattle.eac_base.specs.declared.acks.Ack.{Ack}
+use Rattle.chip_slots.specs.declared.disk.ChipDisk.{Ghosts as DiskOf}
 use Rattle.policy_limits.specs.Setup.{SetupValue}
+use Rattle.eac_net.specs.Chips.{HasChip, known_of}
 use Rattle.eac_net.specs.Items.{Ran, events_of, answers_of}
 use Rattle.eac_net.specs.Journal.{line_text, journal}
+use Rattle.eac_net.specs.Laws.{IsNew, SoFarIsRun}
+use Rattle.headline.specs.Headline.{Headline}
+use Rattle.headline.specs.Sentences.{RunsKeepTheirWord}
 use Rattle.eac_net.specs.Objects.{Outside}
-use Rattle.eac_net.specs.Run.{RunOf}
 use Rattle.eac_net.specs.SoFar.{SoFar}
 use Rattle.eac_net.specs.Steps.{FitsLine, HasDay, later_day, MayRun}
 use Rattle.eac_net.specs.declared.answer.Answer.{Answer}
 use Rattle.eac_net.specs.declared.event.Event.{Event}
 use Rattle.eac_net.specs.declared.world.World.{World}
-use Rattle.eac_net.proofs.Histories.{run_of}
 use Rattle.eac_net.proofs.Looping.{nothing_yet, one_item}
 use Rattle.eac_cli.specs.declared.event.EventLine.{EventLine}
 use Rattle.eac_cli.specs.declared.running.Stop.{Stop}
 use Rattle.eac_cli.specs.declared.running.Stop.TheVariants.{WriteFault, NoMemory}
 use Rattle.eac_cli.specs.Objects.{RunObjects}
 use Rattle.eac_cli.specs.Script.{IsScript, InOrder, AllFit}
-use Rattle.eac_cli.specs.Steps.{line_events, line_numbers, MayRunAll, RunsAs, Breaks, Sent}
-use Rattle.eac_cli.specs.Top.{Whole, SentUntil, Stopped}
+use Rattle.eac_cli.specs.Steps.{line_events, line_numbers, MayRunAll, Breaks, RunsOver, Sent}
+use Rattle.eac_cli.specs.Top.{RunsTo, Whole, SentUntil, Stopped}
 use Rattle.eac_cli.proofs.MayRun.{script_in_order, script_fits}
 
 -- ---- lists of lines and answers
@@ -49,26 +54,35 @@ numbers_more lines line = map-append _ lines (line ∷ [])
 
 -- ---- a run so far
 
--- These lines were run from a world without a day, each with its whole journal line.
-pub record Going (setup : SetupValue) (before after : RunObjects) (w : World) (lines : List EventLine) : Type 0 where
+-- what ran so far is a run, with all that is promised of one
+abbrev pub IsPromised : {D : Type 0} → DiskOf D → Type 0
+IsPromised {D} G = (setup : SetupValue) (first o : Outside) (disks now : List D) (w : World) (items : List Ran)
+    → SoFar G setup first disks w o now items → Headline G setup first o disks now w.acks.acks (events_of items) (answers_of items)
+
+pub promised : {D : Type 0} (G : DiskOf D) → SoFarIsRun G → RunsKeepTheirWord G → IsPromised G
+promised G is_run keep setup first o disks now w items so =
+    keep setup first o disks now w.acks.acks (events_of items) (answers_of items) (is_run setup first o disks now w items so)
+
+-- These lines were run from a new world, each with its whole journal line.
+pub record Going {D : Type 0} (G : DiskOf D) (setup : SetupValue) (before after : RunObjects D) (w : World) (lines : List EventLine) : Type 0 where
   pub items : List Ran
   pub events_are : events_of items ≡ line_events lines
   pub ended : All IsSome (answers_of items)
-  pub so_far : SoFar setup before.outside w after.outside items
+  pub so_far : SoFar G setup before.outside before.disks w after.outside after.disks items
   pub sent : Appends before.taken after.taken (journal (line_numbers lines) (answers_of items))
   pub quiet : after.lost ≡ before.lost
 
-pub begun : (setup : SetupValue) (o : RunObjects) (w : World) → w.day ≡ None → w.packets ≡ [] → Going setup o o w []
-begun setup o w day packets = record {
+pub begun : {D : Type 0} (G : DiskOf D) (setup : SetupValue) (o : RunObjects D) (w : World) → IsNew w → ((chip : ℕ) → o.outside.disks chip ≡ known_of G o.disks chip) → Going G setup o o w []
+begun G setup o w new known = record {
   items = [];
   events_are = refl;
   ended = All-nil IsSome;
-  so_far = nothing_yet setup o.outside w day packets;
+  so_far = nothing_yet G setup o.outside o.disks w new known;
   sent = Appends-nil o.taken;
   quiet = refl;
 }
 
-module _ (setup : SetupValue) (o m : RunObjects) (w : World) (lines : List EventLine) (g : Going setup o m w lines) where
+module _ {D : Type 0} (G : DiskOf D) (setup : SetupValue) (o m : RunObjects D) (w : World) (lines : List EventLine) (g : Going G setup o m w lines) where
   pub answer_count : length (answers_of g.items) ≡ length lines
   answer_count = same_length (λ (i : Ran). i.answer) g.items ∙ sym (same_length (λ (i : Ran). i.event) g.items) ∙ ap length g.events_are ∙ same_length (λ (l : EventLine). l.event) lines
 
@@ -81,18 +95,23 @@ module _ (setup : SetupValue) (o m : RunObjects) (w : World) (lines : List Event
   items_more : (line : EventLine) (i : Ran) → i.event ≡ line.event → events_of (g.items ++ i ∷ []) ≡ line_events (lines ++ line ∷ [])
   items_more line i is = map-append _ g.items (i ∷ []) ∙ (λ j. g.events_are j ++ is j ∷ []) ∙ sym (events_more lines line)
 
-  module _ (line : EventLine) (n : RunObjects) (w' : World) (i : Ran) (runs : RunsAs setup line w w' m.outside n.outside i) where
-    on : SoFar setup o.outside w' n.outside (g.items ++ i ∷ [])
-    on = one_item setup o.outside w w' m.outside n.outside g.items i g.so_far g.ended runs.step
+  -- the run of the lines
+  pub runs_here : IsPromised G → RunsTo G setup o m w.acks.acks lines (answers_of g.items)
+  runs_here is_run = subst (λ (es : List Event). Headline G setup o.outside m.outside o.disks m.disks w.acks.acks es (answers_of g.items)) g.events_are
+      (is_run setup o.outside m.outside o.disks m.disks w g.items g.so_far)
+
+  module _ (line : EventLine) (n : RunObjects D) (w' : World) (i : Ran) (runs : RunsOver G setup line w w' m n i) where
+    on : SoFar G setup o.outside o.disks w' n.outside n.disks (g.items ++ i ∷ [])
+    on = one_item G setup o.outside o.disks w w' m.outside n.outside m.disks n.disks g.items i g.so_far g.ended runs.step runs.turns
 
     -- the run of the lines and of this one
-    runs_on : RunOf setup o.outside n.outside (line_events (lines ++ line ∷ [])) (answers_of g.items ++ i.answer ∷ [])
-    runs_on =
-        subst (λ (x : List Event × List (Option Answer)). RunOf setup o.outside n.outside x.0 x.1) (λ j. (items_more line i runs.event j, answers_more i j))
-        (run_of setup o.outside n.outside w' (g.items ++ i ∷ []) on)
+    runs_on : IsPromised G → RunsTo G setup o n w'.acks.acks (lines ++ line ∷ []) (answers_of g.items ++ i.answer ∷ [])
+    runs_on is_run =
+        subst (λ (x : List Event × List (Option Answer)). Headline G setup o.outside n.outside o.disks n.disks w'.acks.acks x.0 x.1) (λ j. (items_more line i runs.event j, answers_more i j))
+        (is_run setup o.outside n.outside o.disks n.disks w' (g.items ++ i ∷ []) on)
 
     -- one more line, with its whole journal line
-    goes_on : IsSome i.answer → Appends m.taken n.taken (line_text line.line i.answer) → n.lost ≡ m.lost → Going setup o n w' (lines ++ line ∷ [])
+    goes_on : IsSome i.answer → Appends m.taken n.taken (line_text line.line i.answer) → n.lost ≡ m.lost → Going G setup o n w' (lines ++ line ∷ [])
     goes_on some sent quiet = record {
       items = g.items ++ i ∷ [];
       events_are = items_more line i runs.event;
@@ -104,9 +123,9 @@ module _ (setup : SetupValue) (o m : RunObjects) (w : World) (lines : List Event
       quiet = quiet ∙ g.quiet;
     }
 
-pub one_more : (setup : SetupValue) (o m n : RunObjects) (w w' : World) (lines all : List EventLine) (line : EventLine) (u : Unit {0}) → all ≡ lines ++ line ∷ [] → Going setup o m w lines → Sent setup line (Ok u) w w' m n → Going setup o n w' all
-one_more setup o m n w w' lines all line u is g s =
-    subst (Going setup o n w') (sym is) (goes_on setup o m w lines g line n w' s.0 s.1 s.2 s.3 s.4)
+pub one_more : {D : Type 0} (G : DiskOf D) (setup : SetupValue) (o m n : RunObjects D) (w w' : World) (lines all : List EventLine) (line : EventLine) (u : Unit {0}) → all ≡ lines ++ line ∷ [] → Going G setup o m w lines → Sent G setup line (Ok u) w w' m n → Going G setup o n w' all
+one_more G setup o m n w w' lines all line u is g s =
+    subst (Going G setup o n w') (sym is) (goes_on G setup o m w lines g line n w' s.0 s.1 s.2 s.3 s.4)
 
 -- ---- lines that are still to be run
 
@@ -115,85 +134,98 @@ rest_step [] i line lt is = absurd (omega arith)
 rest_step (x ∷ xs) zero line lt is = ap (λ (y : EventLine). y ∷ xs) (sym is)
 rest_step (x ∷ xs) (suc i) line lt is = rest_step xs i line (omega arith) is
 
-pub may_run_next : (setup : SetupValue) (today : Option ℕ) (lines : List EventLine) (i : ℕ) (line : EventLine) → i < length lines → line ≡ get_or lines i line → MayRunAll setup today (drop i lines) → HasDay today line.event × FitsLine setup line.event × MayRunAll setup (later_day today line.event) (drop (i + 1) lines)
-may_run_next setup today lines i line lt is may =
-    subst (λ (n : ℕ). HasDay today line.event × FitsLine setup line.event × MayRunAll setup (later_day today line.event) (drop n lines)) (sym (add-one i)) (subst (MayRunAll setup today) (rest_step lines i line lt is) may)
+-- the next line may be run, and those behind it after it
+pub record MayRunNext (setup : SetupValue) (chips : ℕ) (today : Option ℕ) (line : EventLine) (lines : List EventLine) : Type 0 where
+  pub chip : HasChip chips line.event
+  pub day : HasDay today line.event
+  pub fits : FitsLine setup line.event
+  pub rest : MayRunAll setup chips (later_day today line.event) lines
+
+pub may_run_next : (setup : SetupValue) (chips : ℕ) (today : Option ℕ) (lines : List EventLine) (i : ℕ) (line : EventLine) → i < length lines → line ≡ get_or lines i line → MayRunAll setup chips today (drop i lines) → MayRunNext setup chips today line (drop (i + 1) lines)
+may_run_next setup chips today lines i line lt is may =
+    let all : MayRunAll setup chips today (line ∷ drop (suc i) lines) = subst (MayRunAll setup chips today) (rest_step lines i line lt is) may in
+    record { chip = all.0; day = all.1; fits = all.2; rest = subst (λ (n : ℕ). MayRunAll setup chips (later_day today line.event) (drop n lines)) (sym (add-one i)) all.3 }
 
 next_is : (lines : List EventLine) (i : ℕ) (line : EventLine) → i < length lines → line ≡ get_or lines i line → slice_get lines i ≡ Some line
 next_is [] i line lt is = absurd (omega arith)
 next_is (x ∷ xs) zero line lt is = ap Some (sym is)
 next_is (x ∷ xs) (suc i) line lt is = next_is xs i line (omega arith) is
 
--- the line at which a loop stands may be run
-pub may_run_here : (setup : SetupValue) (o m : RunObjects) (w : World) (done lines : List EventLine) (i : ℕ) (line : EventLine) → i < length lines → line ≡ get_or lines i line → MayRunAll setup w.day (drop i lines) → Going setup o m w done → MayRun setup w line.event
-may_run_here setup o m w done lines i line lt is may g =
-    let next = may_run_next setup w.day lines i line lt is may in
-    record { day = next.0; fits = next.1; parties = g.so_far.parties }
+-- the line at which a loop stands may be run over as many chips as there were
+pub may_run_here : {D : Type 0} (G : DiskOf D) (setup : SetupValue) (o m : RunObjects D) (w : World) (chips now : ℕ) (done lines : List EventLine) (i : ℕ) (line : EventLine) → now ≡ chips → i < length lines → line ≡ get_or lines i line → MayRunAll setup chips w.day (drop i lines) → Going G setup o m w done → MayRun setup now w line.event
+may_run_here G setup o m w chips now done lines i line same lt is may g =
+    let next = may_run_next setup chips w.day lines i line lt is may in
+    record { chip = subst (λ (n : ℕ). HasChip n line.event) (sym same) next.chip; day = next.day; fits = next.fits; parties = g.so_far.parties }
 
 -- ---- what a script says may be run
 
-all_allowed : (setup : SetupValue) (today : Option ℕ) (lines : List EventLine) → InOrder today lines → AllFit setup lines → MayRunAll setup today lines
-all_allowed setup today [] o f = tt
-all_allowed setup today (line ∷ lines) o f =
-    (o.0.day, All-head (λ (l : EventLine). FitsLine setup l.event) line lines f, all_allowed setup (later_day today line.event) lines o.1 (All-tail (λ (l : EventLine). FitsLine setup l.event) line lines f))
+abbrev FitsHere : ℕ → SetupValue → EventLine → Type 0
+FitsHere chips setup line = HasChip chips line.event × FitsLine setup line.event
 
-pub script_may_run : (bytes : List ℕ) (setup : SetupValue) (lines slice : List EventLine) → slice ≡ lines → IsScript bytes setup lines → MayRunAll setup None slice
-script_may_run bytes setup lines slice same is = subst (MayRunAll setup None) (sym same) (all_allowed setup None lines (script_in_order bytes setup lines is) (script_fits bytes setup lines is))
+all_allowed : (setup : SetupValue) (chips : ℕ) (today : Option ℕ) (lines : List EventLine) → InOrder today lines → AllFit chips setup lines → MayRunAll setup chips today lines
+all_allowed setup chips today [] o f = tt
+all_allowed setup chips today (line ∷ lines) o f =
+    let here = All-head (FitsHere chips setup) line lines f in
+    (here.0, o.0.day, here.1, all_allowed setup chips (later_day today line.event) lines o.1 (All-tail (FitsHere chips setup) line lines f))
+
+pub script_may_run : (bytes : List ℕ) (chips : ℕ) (setup : SetupValue) (lines slice : List EventLine) → slice ≡ lines → IsScript bytes chips setup lines → MayRunAll setup chips None slice
+script_may_run bytes chips setup lines slice same is = subst (MayRunAll setup chips None) (sym same) (all_allowed setup chips None lines (script_in_order bytes chips setup lines is) (script_fits bytes chips setup lines is))
 
 -- ---- the ends of a run
 
-pub whole_run : (setup : SetupValue) (o n : RunObjects) (w : World) (lines all : List EventLine) (done : ℕ) → lines ≡ all → done ≡ length all → Going setup o n w lines → Whole setup o n all done
-whole_run setup o n w lines all done is count g =
-    subst (λ (l : List EventLine). done ≡ length l → Whole setup o n l done) is (λ c. record {
+pub whole_run : {D : Type 0} (G : DiskOf D) (is_run : IsPromised G) (setup : SetupValue) (o n : RunObjects D) (w : World) (acks : AcksValue) (lines all : List EventLine) (done : ℕ) → acks ≡ w.acks → lines ≡ all → done ≡ length all → Going G setup o n w lines → Whole G setup o n all done acks.acks
+whole_run G is_run setup o n w acks lines all done given is count g =
+    let here : Whole G setup o n lines (length lines) w.acks.acks = record {
       answers = answers_of g.items;
-      all = c;
+      all = refl;
       ended = g.ended;
-      run = subst (λ (es : List Event). RunOf setup o.outside n.outside es (answers_of g.items)) g.events_are (run_of setup o.outside n.outside w g.items g.so_far);
+      run = runs_here G setup o n w lines g is_run;
       sent = g.sent;
       quiet = g.quiet;
-    }) count
+    } in
+    subst (λ (x : List EventLine × ℕ × List Ack). Whole G setup o n x.0 x.1 x.2) (λ j. (is j, (ap length is ∙ sym count) j, ap (λ (a : AcksValue). a.acks) (sym given) j)) here
 
-module _ (setup : SetupValue) (o m n : RunObjects) (w w' : World) (all : List EventLine) (i : ℕ) (line : EventLine) (lt : i < length all) (is : line ≡ get_or all i line) (g : Going setup o m w (take i all)) where
-  stopped : (stop : Stop) (last : List (Option Answer)) → RunOf setup o.outside n.outside (line_events (take (i + length last) all)) (answers_of g.items ++ last) → SentUntil o n stop (journal (line_numbers (take i all)) (answers_of g.items)) line.line last → Stopped setup o n stop all i
+module _ {D : Type 0} (G : DiskOf D) (is_run : IsPromised G) (setup : SetupValue) (o m n : RunObjects D) (w w' : World) (all : List EventLine) (i : ℕ) (line : EventLine) (lt : i < length all) (is : line ≡ get_or all i line) (g : Going G setup o m w (take i all)) where
+  stopped : (stop : Stop) (last : List (Option Answer)) → RunsTo G setup o n w'.acks.acks (take (i + length last) all) (answers_of g.items ++ last) → SentUntil o n stop (journal (line_numbers (take i all)) (answers_of g.items)) line.line last → Stopped G setup o n stop all i w'.acks.acks
   stopped stop last run sent = record {
     answers = answers_of g.items;
     line = line;
     last = last;
     next = next_is all i line lt is;
-    count = answer_count setup o m w (take i all) g ∙ length-take-le i all (omega arith);
+    count = answer_count G setup o m w (take i all) g ∙ length-take-le i all (omega arith);
     ended = g.ended;
     run = run;
     sent = sent;
   }
 
   -- the line's event was the last one
-  with_line : (item : Ran) → RunsAs setup line w w' m.outside n.outside item → RunOf setup o.outside n.outside (line_events (take (i + 1) all)) (answers_of g.items ++ item.answer ∷ [])
+  with_line : (item : Ran) → RunsOver G setup line w w' m n item → RunsTo G setup o n w'.acks.acks (take (i + 1) all) (answers_of g.items ++ item.answer ∷ [])
   with_line item runs =
-      subst (λ (ls : List EventLine). RunOf setup o.outside n.outside (line_events ls) (answers_of g.items ++ item.answer ∷ []))
+      subst (λ (ls : List EventLine). RunsTo G setup o n w'.acks.acks ls (answers_of g.items ++ item.answer ∷ []))
       (sym (take_more all i line lt ∙ ap (λ (x : EventLine). take i all ++ x ∷ []) (sym is)))
-      (runs_on setup o m w (take i all) g line n w' item runs)
+      (runs_on G setup o m w (take i all) g line n w' item runs is_run)
 
   -- its event wasn't run
-  without_line : n.outside ≡ m.outside → RunOf setup o.outside n.outside (line_events (take (i + 0) all)) (answers_of g.items ++ [])
-  without_line same =
-      let run : RunOf setup o.outside m.outside (line_events (take i all)) (answers_of g.items) =
-      subst (λ (es : List Event). RunOf setup o.outside m.outside es (answers_of g.items)) g.events_are (run_of setup o.outside m.outside w g.items g.so_far) in
-      let here : RunOf setup o.outside n.outside (line_events (take i all)) (answers_of g.items) = subst (λ (x : Outside). RunOf setup o.outside x (line_events (take i all)) (answers_of g.items)) (sym same) run in
+  without_line : w' ≡ w → n.outside ≡ m.outside → n.disks ≡ m.disks → RunsTo G setup o n w'.acks.acks (take (i + 0) all) (answers_of g.items ++ [])
+  without_line world outside disks =
+      let here : RunsTo G setup o n w'.acks.acks (take i all) (answers_of g.items) =
+      subst (λ (x : World × Outside × List D). Headline G setup o.outside x.1 o.disks x.2 x.0.acks.acks (line_events (take i all)) (answers_of g.items)) (λ j. (sym world j, sym outside j, sym disks j))
+      (runs_here G setup o m w (take i all) g is_run) in
       let zero_is : i + 0 ≡ i = omega arith in
-      subst (λ (x : ℕ × List (Option Answer)). RunOf setup o.outside n.outside (line_events (take x.0 all)) x.1) (λ j. (sym zero_is j, sym (append-nil (answers_of g.items)) j)) here
+      subst (λ (x : ℕ × List (Option Answer)). RunsTo G setup o n w'.acks.acks (take x.0 all) x.1) (λ j. (sym zero_is j, sym (append-nil (answers_of g.items)) j)) here
 
   lines_alone : n.taken ≡ m.taken → Appends o.taken n.taken (journal (line_numbers (take i all)) (answers_of g.items))
   lines_alone same = subst (λ (t : Option (List ℕ)). Appends o.taken t (journal (line_numbers (take i all)) (answers_of g.items))) (sym same) g.sent
 
-  broke : (Breaks setup line w w' m.outside n.outside) → n.taken ≡ m.taken → n.lost ≡ m.lost → Stopped setup o n NoMemory all i
-  broke (inl b) taken lost = stopped NoMemory [] (without_line b.1) (inl refl, lines_alone taken, lost ∙ g.quiet)
+  broke : Breaks G setup line w w' m.outside n.outside m.disks n.disks → n.taken ≡ m.taken → n.lost ≡ m.lost → Stopped G setup o n NoMemory all i w'.acks.acks
+  broke (inl b) taken lost = stopped NoMemory [] (without_line b.0 b.1 b.2) (inl refl, lines_alone taken, lost ∙ g.quiet)
   broke (inr b) taken lost = stopped NoMemory (b.0.answer ∷ []) (with_line b.0 b.1) (inr (ap (λ (a : Option Answer). a ∷ []) b.2), lines_alone taken, lost ∙ g.quiet)
 
-  by_stop : (stop : Stop) → Sent {U = Unit {0}} setup line (Err stop) w w' m n → Stopped setup o n stop all i
+  by_stop : (stop : Stop) → Sent G setup line {U = Unit {0}} (Err stop) w w' m n → Stopped G setup o n stop all i w'.acks.acks
   by_stop WriteFault s = stopped WriteFault (s.0.answer ∷ [])
       (with_line s.0 s.1) (s.0.answer, refl, s.2.0, s.2.1, Appends-trans o.taken m.taken n.taken _ _ g.sent s.2.2, subst (λ (before : ℕ). Rose before n.lost) g.quiet s.3)
   by_stop NoMemory s = broke s.0 s.1 s.2
 
-pub stopped_run : (setup : SetupValue) (o m n : RunObjects) (w w' : World) (all : List EventLine) (i done : ℕ) (line : EventLine) (stop : Stop) → done ≡ i → i < length all → line ≡ get_or all i line → Going setup o m w (take i all) → Sent {U = Unit {0}} setup line (Err stop) w w' m n → Stopped setup o n stop all done
-stopped_run setup o m n w w' all i done line stop same lt is g s =
-    subst (Stopped setup o n stop all) (sym same) (by_stop setup o m n w w' all i line lt is g stop s)
+pub stopped_run : {D : Type 0} (G : DiskOf D) (is_run : IsPromised G) (setup : SetupValue) (o m n : RunObjects D) (w w' : World) (acks : AcksValue) (all : List EventLine) (i done : ℕ) (line : EventLine) (stop : Stop) → acks ≡ w'.acks → done ≡ i → i < length all → line ≡ get_or all i line → Going G setup o m w (take i all) → Sent G setup line {U = Unit {0}} (Err stop) w w' m n → Stopped G setup o n stop all done acks.acks
+stopped_run G is_run setup o m n w w' acks all i done line stop given same lt is g s =
+    subst (λ (x : ℕ × List Ack). Stopped G setup o n stop all x.0 x.1) (λ j. (sym same j, ap (λ (a : AcksValue). a.acks) (sym given) j)) (by_stop G is_run setup o m n w w' all i line lt is g stop s)

@@ -58,17 +58,17 @@ module _ (r next : SetupValue) (n : ℕ) where
 -- ---- from a setup to a script
 
 -- Behind lines that are a setup without events, these lines go on with it, and no event comes.
-record GoesOn (earlier : List Line) (ls : List (ℕ × List ℕ)) : Type 0 where
-  pub fine : Unbroken earlier (map line_of ls)
-  pub same : setup_lines (map line_of ls) ≡ ls
-  pub no_event : named_of (map line_of ls) ≡ []
+record GoesOn (chips : ℕ) (earlier : List Line) (ls : List (ℕ × List ℕ)) : Type 0 where
+  pub fine : Unbroken earlier (map (line_of chips) ls)
+  pub same : setup_lines (map (line_of chips) ls) ≡ ls
+  pub no_event : named_of (map (line_of chips) ls) ≡ []
 
-module _ (earlier : List Line) (start : SetupValue) (n : ℕ) (text : List ℕ) (ls : List (ℕ × List ℕ)) (behind : setup_of earlier ≡ Ok start) (no_event : named_of earlier ≡ []) where
+module _ (chips : ℕ) (earlier : List Line) (start : SetupValue) (n : ℕ) (text : List ℕ) (ls : List (ℕ × List ℕ)) (behind : setup_of earlier ≡ Ok start) (no_event : named_of earlier ≡ []) where
   abbrev one : Line
   one = (n, InSetup text)
 
-  one_is : is_setup_line text ≡ true → line_of (n, text) ≡ one
-  one_is is = ap (λ b. (n, cond b (InSetup text) (Alone (event_of text)))) is
+  one_is : is_setup_line text ≡ true → line_of chips (n, text) ≡ one
+  one_is is = ap (λ b. (n, cond b (InSetup text) (Alone (event_of chips text)))) is
 
   breaks_none : (next : SetupValue) → with_line start (n, text) ≡ Ok next → broken earlier one ≡ None
   breaks_none next is =
@@ -82,55 +82,55 @@ module _ (earlier : List Line) (start : SetupValue) (n : ℕ) (text : List ℕ) 
   still_none : named_of (earlier ++ one ∷ []) ≡ []
   still_none = named_more earlier (one ∷ []) ∙ ap (λ (es : List (ℕ × NamedEvent)). es ++ []) no_event
 
-  goes_on_with : (next : SetupValue) → with_line start (n, text) ≡ Ok next → GoesOn (earlier ++ one ∷ []) ls → GoesOn earlier ((n, text) ∷ ls)
+  goes_on_with : (next : SetupValue) → with_line start (n, text) ≡ Ok next → GoesOn chips (earlier ++ one ∷ []) ls → GoesOn chips earlier ((n, text) ∷ ls)
   goes_on_with next is rest =
-      let same : one ≡ line_of (n, text) = sym (one_is (is_setup start next n text is)) in
+      let same : one ≡ line_of chips (n, text) = sym (one_is (is_setup start next n text is)) in
       record {
-        fine = subst (λ l. (broken earlier l ≡ None) × Unbroken (earlier ++ l ∷ []) (map line_of ls)) same (breaks_none next is, rest.fine);
-        same = subst (λ l. setup_lines (l ∷ map line_of ls) ≡ (n, text) ∷ ls) same (ap (λ l. (n, text) ∷ l) rest.same);
-        no_event = subst (λ l. named_of (l ∷ map line_of ls) ≡ []) same rest.no_event;
+        fine = subst (λ l. (broken earlier l ≡ None) × Unbroken (earlier ++ l ∷ []) (map (line_of chips) ls)) same (breaks_none next is, rest.fine);
+        same = subst (λ l. setup_lines (l ∷ map (line_of chips) ls) ≡ (n, text) ∷ ls) same (ap (λ l. (n, text) ∷ l) rest.same);
+        no_event = subst (λ l. named_of (l ∷ map (line_of chips) ls) ≡ []) same rest.no_event;
       }
 
-  by_line : (w : Result SetupValue SetupRefusal) (setup : SetupValue) → with_line start (n, text) ≡ w → (w >>= λ r. with_lines r ls) ≡ Ok setup → ((next : SetupValue) → with_line start (n, text) ≡ Ok next → with_lines next ls ≡ Ok setup → GoesOn (earlier ++ one ∷ []) ls) → GoesOn earlier ((n, text) ∷ ls)
+  by_line : (w : Result SetupValue SetupRefusal) (setup : SetupValue) → with_line start (n, text) ≡ w → (w >>= λ r. with_lines r ls) ≡ Ok setup → ((next : SetupValue) → with_line start (n, text) ≡ Ok next → with_lines next ls ≡ Ok setup → GoesOn chips (earlier ++ one ∷ []) ls) → GoesOn chips earlier ((n, text) ∷ ls)
   by_line (Ok next) setup is read rest = goes_on_with next is (rest next is read)
   by_line (Err f) setup is read rest = absurd (never read)
     where
       never : Err f ≡ Ok setup → ⊥
       never e = cc
 
-goes_on : (earlier : List Line) (start setup : SetupValue) (ls : List (ℕ × List ℕ)) → setup_of earlier ≡ Ok start → named_of earlier ≡ [] → with_lines start ls ≡ Ok setup → GoesOn earlier ls
-goes_on earlier start setup [] behind no_event read = record { fine = tt; same = refl; no_event = refl }
-goes_on earlier start setup ((n, text) ∷ ls) behind no_event read =
-    by_line earlier start n text ls behind no_event (with_line start (n, text)) setup refl read
-    (λ next is more. goes_on (earlier ++ (n, InSetup text) ∷ []) next setup ls (later earlier start n text ls behind no_event next is) (still_none earlier start n text ls behind no_event) more)
+goes_on : (chips : ℕ) (earlier : List Line) (start setup : SetupValue) (ls : List (ℕ × List ℕ)) → setup_of earlier ≡ Ok start → named_of earlier ≡ [] → with_lines start ls ≡ Ok setup → GoesOn chips earlier ls
+goes_on chips earlier start setup [] behind no_event read = record { fine = tt; same = refl; no_event = refl }
+goes_on chips earlier start setup ((n, text) ∷ ls) behind no_event read =
+    by_line chips earlier start n text ls behind no_event (with_line start (n, text)) setup refl read
+    (λ next is more. goes_on chips (earlier ++ (n, InSetup text) ∷ []) next setup ls (later chips earlier start n text ls behind no_event next is) (still_none chips earlier start n text ls behind no_event) more)
 
 -- ---- from a script to a setup
 
-module _ (earlier : List Line) (n : ℕ) (text : List ℕ) (ls : List (ℕ × List ℕ)) where
-  no_other : (setup : Bool) (read : Result NamedEvent LineRule) → broken earlier (n, cond setup (InSetup text) (Alone read)) ≡ None → named_of ((n, cond setup (InSetup text) (Alone read)) ∷ map line_of ls) ≡ [] → (named_of (map line_of ls) ≡ [] → setup_lines (map line_of ls) ≡ ls) → setup_lines ((n, cond setup (InSetup text) (Alone read)) ∷ map line_of ls) ≡ (n, text) ∷ ls
+module _ (chips : ℕ) (earlier : List Line) (n : ℕ) (text : List ℕ) (ls : List (ℕ × List ℕ)) where
+  no_other : (setup : Bool) (read : Result NamedEvent LineRule) → broken earlier (n, cond setup (InSetup text) (Alone read)) ≡ None → named_of ((n, cond setup (InSetup text) (Alone read)) ∷ map (line_of chips) ls) ≡ [] → (named_of (map (line_of chips) ls) ≡ [] → setup_lines (map (line_of chips) ls) ≡ ls) → setup_lines ((n, cond setup (InSetup text) (Alone read)) ∷ map (line_of chips) ls) ≡ (n, text) ∷ ls
   no_other true read fine none rest = ap (λ l. (n, text) ∷ l) (rest none)
   no_other false (Ok event) fine none rest = absurd (never none)
     where
-      never : (n, event) ∷ named_of (map line_of ls) ≡ [] → ⊥
+      never : (n, event) ∷ named_of (map (line_of chips) ls) ≡ [] → ⊥
       never e = cc
   no_other false (Err rule) fine none rest = absurd (never fine)
     where
       never : Some rule ≡ None → ⊥
       never e = cc
 
-all_setup : (earlier : List Line) (ls : List (ℕ × List ℕ)) → Unbroken earlier (map line_of ls) → named_of (map line_of ls) ≡ [] → setup_lines (map line_of ls) ≡ ls
-all_setup earlier [] fine none = refl
-all_setup earlier ((n, text) ∷ ls) fine none =
-    no_other earlier n text ls (is_setup_line text) (event_of text) fine.0 none (all_setup (earlier ++ line_of (n, text) ∷ []) ls fine.1)
+all_setup : (chips : ℕ) (earlier : List Line) (ls : List (ℕ × List ℕ)) → Unbroken earlier (map (line_of chips) ls) → named_of (map (line_of chips) ls) ≡ [] → setup_lines (map (line_of chips) ls) ≡ ls
+all_setup chips earlier [] fine none = refl
+all_setup chips earlier ((n, text) ∷ ls) fine none =
+    no_other chips earlier n text ls (is_setup_line text) (event_of chips text) fine.0 none (all_setup chips (earlier ++ line_of chips (n, text) ∷ []) ls fine.1)
 
 pub setups_are_scripts : SetupsAreScripts
-setups_are_scripts text setup = (script, setup_read)
+setups_are_scripts text chips setup = (script, setup_read)
   where
-    script : read_setup text ≡ Ok setup → IsScript text setup []
+    script : read_setup text ≡ Ok setup → IsScript text chips setup []
     script read =
-        let on = goes_on [] (setup_value [] []) setup (numbered_lines text) refl refl read in
+        let on = goes_on chips [] (setup_value [] []) setup (numbered_lines text) refl refl read in
         record { fine = on.fine; setup_is = ap (with_lines (setup_value [] [])) on.same ∙ read; events_are = sym (ap (filter_map (event_line setup)) on.no_event) }
 
-    setup_read : IsScript text setup [] → read_setup text ≡ Ok setup
+    setup_read : IsScript text chips setup [] → read_setup text ≡ Ok setup
     setup_read s =
-        ap (with_lines (setup_value [] [])) (sym (all_setup [] (numbered_lines text) s.fine (no_names (named_of (map line_of (numbered_lines text))) (sym (none_lost text setup [] s))))) ∙ s.setup_is
+        ap (with_lines (setup_value [] [])) (sym (all_setup chips [] (numbered_lines text) s.fine (no_names (named_of (map (line_of chips) (numbered_lines text))) (sym (none_lost text chips setup [] s))))) ∙ s.setup_is

@@ -1,6 +1,7 @@
 pub mod ActLines
 pub mod AskLines
 pub mod DayLines
+pub mod ChipLines
 pub mod LineGrammar
 pub mod LineRules
 pub mod LineWords

@@ -1,5 +1,5 @@
 -- The events that lines name, with the parties' numbers in a setup (this project's own). Where a party isn't there, or
--- can't have its part, there is none.
+-- can't have its part, or the chip isn't there, there is none.
 use Rattle.std.specs.Prelude.{ℕ, List, ◌==◌, Bool, Option, Some, None, if◌then◌else◌}
 use Rattle.std.specs.Option.{option_or}
 use Rattle.eac_base.specs.Answers.{◌gives◌}
@@ -73,6 +73,21 @@ abbrev pub send_in : SetupValue → List ℕ → List ℕ → List ℕ → Optio
 send_in setup from to bytes =
     numbered is_any setup from gives λ f. numbered is_any setup to gives λ t. Some (events.Send f t bytes)
 
+-- ---- chips
+
+abbrev pub make_in : SetupValue → Option ℕ → List ℕ → Option Event
+make_in setup chip authority = chip gives λ c. numbered is_authority setup authority gives λ a. Some (events.Make c a)
+
+abbrev pub present_in : SetupValue → Option ℕ → List ℕ → Option Event
+present_in setup chip terminal =
+    chip gives λ c. numbered is_inspection_system setup terminal gives λ t. Some (events.Present c t)
+
+abbrev pub import_in : Option ℕ → List ℕ → Option Event
+import_in chip bytes = chip gives λ c. Some (events.Import c bytes)
+
+abbrev pub look_in : Option ℕ → Option Event
+look_in chip = chip gives λ c. Some (events.Look c)
+
 -- ---- any event
 
 abbrev pub event_in : SetupValue → NamedEvent → Option Event
@@ -86,3 +101,7 @@ event_in setup (named.Fetch party desk) = fetch_in setup party desk
 event_in setup (named.Push desk party) = push_in setup desk party
 event_in setup (named.Send from to bytes) = send_in setup from to bytes
 event_in setup (named.Deliver packet) = Some (events.Deliver packet)
+event_in setup (named.Make chip authority) = make_in setup chip authority
+event_in setup (named.Present chip terminal) = present_in setup chip terminal
+event_in setup (named.Import chip bytes) = import_in chip bytes
+event_in setup (named.Look chip) = look_in chip

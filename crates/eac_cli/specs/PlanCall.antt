@@ -40,7 +40,7 @@ TellsNeedFault bytes read status =
 -- ---- one call
 
 -- One call of `plan`, from the objects before it to those after it.
-pub record PlanCall (before after : Objects) (status : Status) : Type 0 where
+pub record PlanCall {D : Type 0} (before after : Objects D) (status : Status) : Type 0 where
   -- the bytes that were read, and by the status what was printed of them
   pub plans : (bytes : List ℕ) × WereRead before.left after.left before.reads after.reads bytes
       × Plans before.run.taken after.run.taken after.left status bytes

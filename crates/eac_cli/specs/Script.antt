@@ -12,6 +12,7 @@ use Rattle.policy_limits.specs.declared.setup_refusal.SetupRefusal.{SetupRefusal
 use Rattle.policy_limits.specs.declared.setup_refusal.SetupRefusal.TheVariants.{Form, Limit as SetupLimit}
 use Rattle.policy_limits.specs.declared.setup_refusal.SetupRefusal.TheVariants.{Twice as SetupTwice}
 use Rattle.policy_limits.specs.declared.setup_refusal.SetupRefusal.TheVariants.{NoMemory as SetupNoMemory}
+use Rattle.eac_net.specs.Chips.{HasChip}
 use Rattle.eac_net.specs.Steps.{FitsLine, HasDay, later_day}
 use Rattle.eac_net.specs.declared.event.Event.{Event}
 use Rattle.eac_cli.specs.LineGrammar.{event_of}
@@ -40,14 +41,15 @@ pub data Said : Type 0 where
 abbrev pub Line : Type 0
 Line = ℕ × Said
 
-abbrev pub said_by : List ℕ → Said
-said_by text = if is_setup_line text then InSetup text else Alone (event_of text)
+module _ (chips : ℕ) where
+  abbrev pub said_by : List ℕ → Said
+  said_by text = if is_setup_line text then InSetup text else Alone (event_of chips text)
 
-abbrev pub line_of : ℕ × List ℕ → Line
-line_of line = (line.0, said_by line.1)
+  abbrev pub line_of : ℕ × List ℕ → Line
+  line_of line = (line.0, said_by line.1)
 
-abbrev pub lines_read : List ℕ → List Line
-lines_read bytes = map line_of (numbered_lines bytes)
+  abbrev pub lines_read : List ℕ → List Line
+  lines_read bytes = map line_of (numbered_lines bytes)
 
 -- ---- what lines say together
 
@@ -88,6 +90,10 @@ day_begun (named.Fetch party desk) = None
 day_begun (named.Push desk party) = None
 day_begun (named.Send from to bytes) = None
 day_begun (named.Deliver packet) = None
+day_begun (named.Make chip authority) = None
+day_begun (named.Present chip terminal) = None
+day_begun (named.Import chip bytes) = None
+day_begun (named.Look chip) = None
 
 -- The day in force after all of these event lines.
 abbrev pub last_day : Option ℕ → List (ℕ × NamedEvent) → Option ℕ
@@ -128,7 +134,7 @@ order_rule None (Some day) = None
 order_rule (Some today) None = None
 order_rule (Some today) (Some day) = if nat_lt day today then Some DayFalls else None
 
--- The parties of an event are those that it wants.
+-- The parties of an event are those that it wants, and its chip is there.
 abbrev pub party_rule : Result SetupValue SetupRefusal → NamedEvent → Option LineRule
 party_rule (Ok setup) event = if is_some (event_in setup event) then None else Some Party
 party_rule (Err refusal) event = None
@@ -166,25 +172,25 @@ Unbroken earlier (line ∷ lines) = (broken earlier line ≡ None) × Unbroken (
 
 -- ---- scripts and faults
 
--- The bytes are a script with this setup and these events.
-pub record IsScript (bytes : List ℕ) (setup : SetupValue) (events : List EventLine) : Type 0 where
-  pub fine : Unbroken [] (lines_read bytes)
-  pub setup_is : setup_of (lines_read bytes) ≡ Ok setup
-  pub events_are : events ≡ events_of setup (lines_read bytes)
+-- The bytes are a script over so many chips, with this setup and these events.
+pub record IsScript (bytes : List ℕ) (chips : ℕ) (setup : SetupValue) (events : List EventLine) : Type 0 where
+  pub fine : Unbroken [] (lines_read chips bytes)
+  pub setup_is : setup_of (lines_read chips bytes) ≡ Ok setup
+  pub events_are : events ≡ events_of setup (lines_read chips bytes)
 
 -- The first line that breaks a rule is the one of this number, and this is the number of the least rule that it breaks.
-pub record IsFault (bytes : List ℕ) (line rule : ℕ) : Type 0 where
+pub record IsFault (bytes : List ℕ) (chips line rule : ℕ) : Type 0 where
   pub front : List Line
   pub said : Said
   pub back : List Line
-  pub cut : lines_read bytes ≡ front ++ (line, said) ∷ back
+  pub cut : lines_read chips bytes ≡ front ++ (line, said) ∷ back
   pub fine : Unbroken [] front
   pub breaks : option_map rule_number (broken front (line, said)) ≡ Some rule
 
 -- A refusal is true: want of memory says nothing of the bytes.
-abbrev pub FaultOf : List ℕ → ScriptRefusal → Type 0
-FaultOf bytes (Fault line rule) = IsFault bytes line rule
-FaultOf bytes ScriptNoMemory = Unit {0}
+abbrev pub FaultOf : List ℕ → (chips : ℕ) → ScriptRefusal → Type 0
+FaultOf bytes chips (Fault line rule) = IsFault bytes chips line rule
+FaultOf bytes chips ScriptNoMemory = Unit {0}
 
 abbrev pub refused_at : ℕ → LineRefusal → ScriptRefusal
 refused_at line (Rule rule) = Fault line (rule_number rule)
@@ -224,6 +230,7 @@ abbrev pub InOrder : Option ℕ → List EventLine → Type 0
 InOrder today [] = Unit {0}
 InOrder today (line ∷ lines) = IsInPlace today line.event × InOrder (later_day today line.event) lines
 
--- Each event is one between parties of the setup that have their parts, and its bytes are within the limits.
-abbrev pub AllFit : SetupValue → List EventLine → Type 0
-AllFit setup lines = All (λ line. FitsLine setup line.event) lines
+-- Each event is one between parties of the setup that have their parts, its chip is one of so many, and its bytes are within
+-- the limits.
+abbrev pub AllFit : (chips : ℕ) → SetupValue → List EventLine → Type 0
+AllFit chips setup lines = All (λ line. HasChip chips line.event × FitsLine setup line.event) lines

@@ -5,6 +5,9 @@ use Rattle.std.specs.Fmt.{decimal}
 use Rattle.std.specs.Io.KnownBytes.{Appends}
 use Rattle.eac_base.specs.Causes.{AppendsFront}
 use Rattle.policy_limits.specs.Setup.{SetupValue}
+use Rattle.chip_slots.specs.declared.disk.ChipDisk.{Ghosts as DiskOf}
+use Rattle.eac_net.specs.ChipSteps.{StepsDisks}
+use Rattle.eac_net.specs.Chips.{HasChip}
 use Rattle.eac_net.specs.Items.{Ran}
 use Rattle.eac_net.specs.Journal.{line_text}
 use Rattle.eac_net.specs.Objects.{Outside}
@@ -26,11 +29,12 @@ line_events lines = map (λ (line : EventLine). line.event) lines
 abbrev pub line_numbers : List EventLine → List ℕ
 line_numbers lines = map (λ (line : EventLine). line.line) lines
 
--- each line may be run after those before it
-abbrev pub MayRunAll : SetupValue → Option ℕ → List EventLine → Type 0
-MayRunAll setup today [] = Unit {0}
-MayRunAll setup today (line ∷ lines) =
-    HasDay today line.event × FitsLine setup line.event × MayRunAll setup (later_day today line.event) lines
+-- each line may be run after those before it, over so many chips
+abbrev pub MayRunAll : SetupValue → (chips : ℕ) → Option ℕ → List EventLine → Type 0
+MayRunAll setup chips today [] = Unit {0}
+MayRunAll setup chips today (line ∷ lines) =
+    HasChip chips line.event × HasDay today line.event × FitsLine setup line.event
+    × MayRunAll setup chips (later_day today line.event) lines
 
 -- ---- texts
 
@@ -50,6 +54,10 @@ has_line (events.Fetch party desk) = true
 has_line (events.Push desk party) = true
 has_line (events.Send from to bytes) = true
 has_line (events.Deliver packet) = true
+has_line (events.Make chip authority) = true
+has_line (events.Present chip terminal) = true
+has_line (events.Import chip bytes) = true
+has_line (events.Look chip) = true
 
 abbrev pub head_of : EventLine → List ℕ
 head_of line = if has_line line.event then line_head line.line else []
@@ -61,32 +69,37 @@ feed_of (b ∷ bytes) = 10 ∷ []
 
 -- ---- one line
 
--- The line's event ran as this item.
-pub record RunsAs (setup : SetupValue) (line : EventLine) (w w' : World) (o o' : Outside) (i : Ran) : Type 0 where
-  pub event : i.event ≡ line.event
-  pub step : Steps setup i w w' o o'
+module _ {D : Type 0} (G : DiskOf D) (setup : SetupValue) (line : EventLine) where
+  -- The line's event ran as this item.
+  pub record RunsAs (w w' : World) (o o' : Outside) (disks disks' : List D) (i : Ran) : Type 0 where
+    pub event : i.event ≡ line.event
+    pub step : Steps setup i w w' o o'
+    pub turns : StepsDisks G i disks disks'
 
--- Memory was wanting: before the event, and nothing was run; or in it.
-abbrev pub Breaks : SetupValue → EventLine → World → World → Outside → Outside → Type 0
-Breaks setup line w w' o o' =
-    ((w' ≡ w) × (o' ≡ o)) ⊎ ((i : Ran) × RunsAs setup line w w' o o' i × (i.answer ≡ None))
+  -- Memory was wanting: before the event, and nothing was run; or in it.
+  abbrev pub Breaks : World → World → Outside → Outside → List D → List D → Type 0
+  Breaks w w' o o' disks disks' =
+      ((w' ≡ w) × (o' ≡ o) × (disks' ≡ disks)) ⊎ ((i : Ran) × RunsAs w w' o o' disks disks' i × (i.answer ≡ None))
 
--- how a line's text came about: that of its answer, but for the line feed; or memory was wanting
-abbrev pub Lined : {E : Type 0} → SetupValue → EventLine → Result (List ℕ) E → World → World → Outside → Outside
-    → Type 0
-Lined setup line (Ok text) w w' o o' =
-    (i : Ran) × RunsAs setup line w w' o o' i × IsSome i.answer × (text ++ feed_of text ≡ line_text line.line i.answer)
-Lined setup line (Err e) w w' o o' = Breaks setup line w w' o o'
+  -- how a line's text came about: that of its answer, but for the line feed; or memory was wanting
+  abbrev pub Lined : {E : Type 0} → Result (List ℕ) E → World → World → Outside → Outside → List D → List D → Type 0
+  Lined (Ok text) w w' o o' disks disks' =
+      (i : Ran) × RunsAs w w' o o' disks disks' i × IsSome i.answer × (text ++ feed_of text ≡ line_text line.line i.answer)
+  Lined (Err e) w w' o o' disks disks' = Breaks w w' o o' disks disks'
 
--- How the running of a line ended: its journal line went out; or a front of it which is not all, and the count of
--- failed writes rose; or memory was wanting, and nothing was written.
-abbrev pub Sent : {U : Type 0} → SetupValue → EventLine → Result U Stop → World → World → RunObjects → RunObjects
-    → Type 0
-Sent setup line (Ok u) w w' before after =
-    (i : Ran) × RunsAs setup line w w' before.outside after.outside i × IsSome i.answer
-    × Appends before.taken after.taken (line_text line.line i.answer) × (after.lost ≡ before.lost)
-Sent setup line (Err WriteFault) w w' before after =
-    (i : Ran) × RunsAs setup line w w' before.outside after.outside i
-    × AppendsFront before.taken after.taken (line_text line.line i.answer) × WriteFailed before after
-Sent setup line (Err NoMemory) w w' before after =
-    Breaks setup line w w' before.outside after.outside × (after.taken ≡ before.taken) × (after.lost ≡ before.lost)
+  -- the line's event between the objects of a run
+  abbrev pub RunsOver : World → World → RunObjects D → RunObjects D → Ran → Type 0
+  RunsOver w w' before after i = RunsAs w w' before.outside after.outside before.disks after.disks i
+
+  -- How the running of a line ended: its journal line went out; or a front of it which is not all, and the count of
+  -- failed writes rose; or memory was wanting, and nothing was written.
+  abbrev pub Sent : {U : Type 0} → Result U Stop → World → World → RunObjects D → RunObjects D → Type 0
+  Sent (Ok u) w w' before after =
+      (i : Ran) × RunsOver w w' before after i × IsSome i.answer
+      × Appends before.taken after.taken (line_text line.line i.answer) × (after.lost ≡ before.lost)
+  Sent (Err WriteFault) w w' before after =
+      (i : Ran) × RunsOver w w' before after i
+      × AppendsFront before.taken after.taken (line_text line.line i.answer) × WriteFailed before after
+  Sent (Err NoMemory) w w' before after =
+      Breaks w w' before.outside after.outside before.disks after.disks × (after.taken ≡ before.taken)
+      × (after.lost ≡ before.lost)

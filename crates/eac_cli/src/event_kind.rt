@@ -17,6 +17,10 @@ pub enum EventKind {
     Push,
     Send,
     Deliver,
+    Make,
+    Present,
+    Import,
+    Look,
 }
 
 /// Reads the first word.
@@ -43,6 +47,14 @@ pub fn kind_of(word: &[u8]) -> Option<EventKind>
         Some(EventKind::Send)
     } else if is_same(word, b"deliver") {
         Some(EventKind::Deliver)
+    } else if is_same(word, b"make") {
+        Some(EventKind::Make)
+    } else if is_same(word, b"present") {
+        Some(EventKind::Present)
+    } else if is_same(word, b"import") {
+        Some(EventKind::Import)
+    } else if is_same(word, b"look") {
+        Some(EventKind::Look)
     } else {
         None
     }

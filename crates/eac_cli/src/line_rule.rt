@@ -21,7 +21,7 @@ pub enum LineRule {
     TooEarly,
     /// The day is before the day in force.
     DayFalls,
-    /// A party of the event isn't in the setup, or can't have that part.
+    /// A party of the event isn't in the setup, or can't have that part; or the chip's number isn't below that of the chips.
     Party,
     /// There are 20,000 event lines before it.
     TooMany,

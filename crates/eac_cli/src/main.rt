@@ -1,10 +1,11 @@
 //! The program `eac`: the parties of a script that found, link, ask for certificates and send each other packets, and
 //! the showing of card-verifiable certificates.
 //!
-//! `main` makes the real outside (standard input and output, an empty keeper, a provider that has signed nothing),
-//! calls [`tool::run_tool`] and ends with the number of its status. All that the program promises stands on that call.
+//! `main` makes the real outside (standard input and output, chips that aren't made yet, an empty keeper, a provider
+//! that has signed nothing), calls [`tool::run_tool`] and ends with the number of its status. All that the program promises stands on that call.
 #![tactic(auto)]
 
+mod chips;
 mod event;
 mod event_kind;
 mod journal;
@@ -22,13 +23,17 @@ mod show;
 mod tests;
 mod tool;
 
-use eac_base::{FailPlan, StdSink, StdSource, Words};
+use chips::blank_chips;
+use eac_base::{FailPlan, NoMemory, StdSink, StdSource, Words};
 use keeper::{KeeperPlan, MemoryKeeper};
 use signature_provider::TableProvider;
 use std::process::ExitCode;
 use std::rt::Env;
 use std::{env, io};
 use tool::{Status, run_tool};
+
+// How many chips there are.
+const CHIPS: u32 = 64;
 
 // The words of the call. No command has a word that isn't text, so such a word is answered as any other one that is
 // none of a command.
@@ -50,8 +55,8 @@ fn words_of<R: Env + AllocGlobal>(rt: &R) -> Result<Words, Status> {
 
 fn main(rt: HostRuntime) -> ExitCode {
     let alloc = rt.alloc();
-    let status = match words_of(&rt) {
-        Ok(words) => {
+    let status = match (words_of(&rt), blank_chips(alloc, CHIPS)) {
+        (Ok(words), Ok(mut chips)) => {
             let mut source = StdSource::new(rt.reader());
             let mut sink = StdSink::new(io::writer(&rt));
             let mut keeper = MemoryKeeper::new(alloc, KeeperPlan::new(alloc));
@@ -61,12 +66,14 @@ fn main(rt: HostRuntime) -> ExitCode {
                 &words,
                 &mut source,
                 &mut sink,
+                chips.as_mut_slice(),
                 &mut keeper,
                 &mut provider,
             )
             .status
         }
-        Err(status) => status,
+        (Err(status), _) => status,
+        (Ok(_), Err(NoMemory)) => Status::NoMemory,
     };
     if status != Status::Done {
         let _ = eprintln!(rt; "{status}");

@@ -3,7 +3,8 @@ use cv_dates::Day;
 use eac_base::Octets;
 use holder_reference::{Holder, Reference};
 
-/// What one line of a script asks for, its parties by their holders.
+/// What one line of a script asks for, its parties by their holders. A chip is none where its number isn't below that of the
+/// chips.
 #[derive(Debug, Drop)]
 pub enum NamedEvent {
     /// `day DATE`: it is this day from now on.
@@ -53,5 +54,24 @@ pub enum NamedEvent {
     /// `deliver N`: the packet of this number comes, 1 to 1,000,000.
     Deliver {
         packet: u64,
+    },
+    /// `make CHIP AUTH`: a chip is made with an authority's newest certificate.
+    Make {
+        chip: Option<u32>,
+        authority: Holder,
+    },
+    /// `present CHIP TERMINAL`: a terminal's chain is shown to a chip.
+    Present {
+        chip: Option<u32>,
+        terminal: Holder,
+    },
+    /// `import CHIP HEX`: a chip is given a certificate.
+    Import {
+        chip: Option<u32>,
+        bytes: Octets,
+    },
+    /// `look CHIP`: a chip is told.
+    Look {
+        chip: Option<u32>,
     },
 }

@@ -1,5 +1,5 @@
-// The events that lines name, with the parties' numbers in a setup. Where a party isn't there, or can't have its part,
-// there is none.
+// The events that lines name, with the parties' numbers in a setup. Where a party isn't there, or can't have its part, or
+// the chip isn't there, there is none.
 ghost use Rattle.std.specs.Prelude.{◌≡◌};
 ghost use Rattle.eac_cli.specs.Naming as naming;
 
@@ -101,7 +101,37 @@ fn send_in(setup: &Setup, from: &Holder, to: &Holder, bytes: Octets) -> Option<E
     Some(Event::Send { from, to, bytes })
 }
 
-/// The event of these parties.
+fn make_in(setup: &Setup, chip: Option<u32>, authority: &Holder) -> Option<Event>
+    ensures { result ≡ naming.make_in setup.now chip authority.now }
+{
+    let chip = chip?;
+    let authority = numbered(Part::Authority, setup, authority)?;
+    Some(Event::Make { chip, authority })
+}
+
+fn present_in(setup: &Setup, chip: Option<u32>, terminal: &Holder) -> Option<Event>
+    ensures { result ≡ naming.present_in setup.now chip terminal.now }
+{
+    let chip = chip?;
+    let terminal = numbered(Part::InspectionSystem, setup, terminal)?;
+    Some(Event::Present { chip, terminal })
+}
+
+fn import_in(chip: Option<u32>, bytes: Octets) -> Option<Event>
+    ensures { result ≡ naming.import_in chip bytes }
+{
+    let chip = chip?;
+    Some(Event::Import { chip, bytes })
+}
+
+fn look_in(chip: Option<u32>) -> Option<Event>
+    ensures { result ≡ naming.look_in chip }
+{
+    let chip = chip?;
+    Some(Event::Look { chip })
+}
+
+/// The event of these parties and chips.
 pub fn event_in(setup: &Setup, named: NamedEvent) -> Option<Event>
     ensures { result ≡ naming.event_in setup.now named }
 {
@@ -120,5 +150,9 @@ pub fn event_in(setup: &Setup, named: NamedEvent) -> Option<Event>
         NamedEvent::Push { desk, party } => push_in(setup, &desk, &party),
         NamedEvent::Send { from, to, bytes } => send_in(setup, &from, &to, bytes),
         NamedEvent::Deliver { packet } => Some(Event::Deliver { packet }),
+        NamedEvent::Make { chip, authority } => make_in(setup, chip, &authority),
+        NamedEvent::Present { chip, terminal } => present_in(setup, chip, &terminal),
+        NamedEvent::Import { chip, bytes } => import_in(chip, bytes),
+        NamedEvent::Look { chip } => look_in(chip),
     }
 }

@@ -1,5 +1,6 @@
 // The loop over the lines of a script.
-ghost use Rattle.std.specs.Prelude.{◌≡◌, ◌++◌, None, IfSome, OnOk};
+ghost use Rattle.std.specs.Prelude.{◌≡◌, ◌++◌, None, IfSome, OnOk, length};
+ghost use Rattle.eac_net.specs.Chips.{known_of};
 ghost use Rattle.eac_net.specs.Objects.{outside};
 ghost use Rattle.eac_net.specs.Steps as net;
 ghost use Rattle.eac_cli.specs.Objects.{run_objects};
@@ -8,8 +9,11 @@ ghost use Rattle.eac_cli.specs.Top.{Whole, Stopped};
 
 use crate::event::EventLine;
 use crate::journal::{push_head, write_line};
-use eac_base::{Failed, NoMemory, Octets, Sink};
+use chip_slots::ChipDisk;
+use eac_base::{Acks, Failed, NoMemory, Octets, Sink};
+use eac_net::laws::run_of;
 use eac_net::{Event, World, step};
+use headline::laws::runs_keep_their_word;
 use keeper::Keeper;
 use policy_limits::Setup;
 use signature_provider::SignatureProvider;
@@ -36,7 +40,11 @@ fn has_line(event: &Event) -> bool
         | Event::Fetch { .. }
         | Event::Send { .. }
         | Event::Push { .. }
-        | Event::Deliver { .. } => true,
+        | Event::Deliver { .. }
+        | Event::Make { .. }
+        | Event::Present { .. }
+        | Event::Import { .. }
+        | Event::Look { .. } => true,
     }
 }
 
@@ -53,19 +61,22 @@ fn begin_line(alloc: Global, line: &EventLine, text: &mut Octets) -> Result<(), 
 
 // Runs one event, and gives its journal line but for the line feed: no bytes for a `day`. Whatever memory the line
 // wants is there before the event or within it.
-fn event_line<B: Keeper, P: SignatureProvider>(
+fn event_line<D: ChipDisk, B: Keeper, P: SignatureProvider>(
     alloc: Global,
     setup: &Setup,
     world: &mut World,
     line: &EventLine,
+    chips: &mut [D],
     keeper: &mut B,
     provider: &mut P,
 ) -> Result<Octets, NoMemory>
-    requires { net.MayRun setup.now world.old line.now.event }
+    requires { net.MayRun setup.now (length chips.old) world.old line.now.event }
+    ensures chips { length chips.new ≡ length chips.old }
     ensures day { OnOk result (world.new.day ≡ net.later_day world.old.day line.now.event) }
-    ensures ran { Lined setup.now line.now result world.old world.new
-        (outside B.Keeper P.SignatureProvider keeper.old provider.old)
-        (outside B.Keeper P.SignatureProvider keeper.new provider.new) }
+    ensures ran { Lined D.ChipDisk setup.now line.now result world.old world.new
+        (outside B.Keeper P.SignatureProvider (known_of D.ChipDisk chips.old) keeper.old provider.old)
+        (outside B.Keeper P.SignatureProvider (known_of D.ChipDisk chips.new) keeper.new provider.new)
+        chips.old chips.new }
 {
     let mut text = Octets::new(alloc);
     begin_line(alloc, line, &mut text)?;
@@ -74,6 +85,7 @@ fn event_line<B: Keeper, P: SignatureProvider>(
         setup,
         world,
         &line.event,
+        chips,
         keeper,
         provider,
         &mut text,
@@ -82,22 +94,24 @@ fn event_line<B: Keeper, P: SignatureProvider>(
 }
 
 // Runs one event, and writes its journal line.
-fn run_line<K: Sink, B: Keeper, P: SignatureProvider>(
+fn run_line<K: Sink, D: ChipDisk, B: Keeper, P: SignatureProvider>(
     alloc: Global,
     setup: &Setup,
     world: &mut World,
     line: &EventLine,
     sink: &mut K,
+    chips: &mut [D],
     keeper: &mut B,
     provider: &mut P,
 ) -> Result<(), Stop>
-    requires { net.MayRun setup.now world.old line.now.event }
+    requires { net.MayRun setup.now (length chips.old) world.old line.now.event }
+    ensures chips { length chips.new ≡ length chips.old }
     ensures day { OnOk result (world.new.day ≡ net.later_day world.old.day line.now.event) }
-    ensures ran { Sent setup.now line.now result world.old world.new
-        (run_objects K.Stream B.Keeper P.SignatureProvider sink.old keeper.old provider.old)
-        (run_objects K.Stream B.Keeper P.SignatureProvider sink.new keeper.new provider.new) }
+    ensures ran { Sent D.ChipDisk setup.now line.now result world.old world.new
+        (run_objects K.Stream D.ChipDisk B.Keeper P.SignatureProvider sink.old chips.old keeper.old provider.old)
+        (run_objects K.Stream D.ChipDisk B.Keeper P.SignatureProvider sink.new chips.new keeper.new provider.new) }
 {
-    let Ok(text) = event_line(alloc, setup, world, line, keeper, provider) else {
+    let Ok(text) = event_line(alloc, setup, world, line, chips, keeper, provider) else {
         return Err(Stop::NoMemory);
     };
     match write_line(sink, text.as_slice()) {
@@ -106,32 +120,58 @@ fn run_line<K: Sink, B: Keeper, P: SignatureProvider>(
     }
 }
 
-/// Runs the lines in order, each with its journal line before the next one. Gives how many were run with their whole
-/// journal line, and why the run stopped before the last one.
-pub fn run_lines<K: Sink, B: Keeper, P: SignatureProvider>(
+/// How a run of lines ended: how many were run with their whole journal line, why it stopped before the last one, and
+/// the imports that chips acknowledged.
+#[derive(Debug, Drop)]
+pub struct RunEnd {
+    pub done: u64,
+    pub stop: Option<Stop>,
+    pub acks: Acks,
+}
+
+/// Runs the lines in order, each with its journal line before the next one.
+pub fn run_lines<K: Sink, D: ChipDisk, B: Keeper, P: SignatureProvider>(
     alloc: Global,
     setup: &Setup,
     lines: &[EventLine],
     sink: &mut K,
+    chips: &mut [D],
     keeper: &mut B,
     provider: &mut P,
-) -> (u64, Option<Stop>)
-    requires { MayRunAll setup.now None lines.now }
-    ensures whole { result.1 ≡ None → Whole setup.now
-        (run_objects K.Stream B.Keeper P.SignatureProvider sink.old keeper.old provider.old)
-        (run_objects K.Stream B.Keeper P.SignatureProvider sink.new keeper.new provider.new) lines.now result.0 }
-    ensures stopped { IfSome result.1 (λ stop. Stopped setup.now
-        (run_objects K.Stream B.Keeper P.SignatureProvider sink.old keeper.old provider.old)
-        (run_objects K.Stream B.Keeper P.SignatureProvider sink.new keeper.new provider.new) stop lines.now result.0) }
+) -> RunEnd
+    requires { MayRunAll setup.now (length chips.old) None lines.now }
+    ensures chips { length chips.new ≡ length chips.old }
+    ensures whole { result.stop ≡ None → Whole D.ChipDisk setup.now
+        (run_objects K.Stream D.ChipDisk B.Keeper P.SignatureProvider sink.old chips.old keeper.old provider.old)
+        (run_objects K.Stream D.ChipDisk B.Keeper P.SignatureProvider sink.new chips.new keeper.new provider.new)
+        lines.now result.done result.acks.acks }
+    ensures stopped { IfSome result.stop (λ stop. Stopped D.ChipDisk setup.now
+        (run_objects K.Stream D.ChipDisk B.Keeper P.SignatureProvider sink.old chips.old keeper.old provider.old)
+        (run_objects K.Stream D.ChipDisk B.Keeper P.SignatureProvider sink.new chips.new keeper.new provider.new)
+        stop lines.now result.done result.acks.acks) }
 {
+    run_of(chips);
+    runs_keep_their_word(chips);
     let mut world = World::new(alloc);
     let mut done: u64 = 0;
     for line in lines {
-        match run_line(alloc, setup, &mut world, line, sink, keeper, provider) {
+        match run_line(
+            alloc, setup, &mut world, line, sink, chips, keeper, provider,
+        ) {
             Ok(()) => {}
-            Err(stop) => return (done, Some(stop)),
+            Err(stop) => {
+                return RunEnd {
+                    done,
+                    stop: Some(stop),
+                    acks: world.into_acks(),
+                };
+            }
         }
         done += 1;
     }
-    (done, None)
+    RunEnd {
+        done,
+        stop: None,
+        acks: world.into_acks(),
+    }
 }

@@ -50,7 +50,11 @@ fn day_begun(event: &NamedEvent) -> Option<Day>
         | NamedEvent::Fetch { .. }
         | NamedEvent::Push { .. }
         | NamedEvent::Send { .. }
-        | NamedEvent::Deliver { .. } => None,
+        | NamedEvent::Deliver { .. }
+        | NamedEvent::Make { .. }
+        | NamedEvent::Present { .. }
+        | NamedEvent::Import { .. }
+        | NamedEvent::Look { .. } => None,
     }
 }
 
@@ -129,20 +133,21 @@ fn take_event(
     setup: &Setup,
     events: &mut EventLines,
     today: &mut Option<Day>,
+    chips: u32,
     line: u64,
     text: &[u8],
 ) -> Result<(), LineRefusal>
     ensures fine { OnOk result
-        (event_rule_behind (Ok setup.now) today.old (length events.old) (event_of text.now) ≡ None) }
-    ensures day { OnOk result (today.new ≡ last_day today.old (named_of ((line, Alone (event_of text.now)) ∷ []))) }
+        (event_rule_behind (Ok setup.now) today.old (length events.old) (event_of chips text.now) ≡ None) }
+    ensures day { OnOk result (today.new ≡ last_day today.old (named_of ((line, Alone (event_of chips text.now)) ∷ []))) }
     ensures events { OnOk result
-        (events.new ≡ events.old ++ events_of setup.now ((line, Alone (event_of text.now)) ∷ [])) }
+        (events.new ≡ events.old ++ events_of setup.now ((line, Alone (event_of chips text.now)) ∷ [])) }
     ensures count { OnOk result
-        (length events.new ≡ length events.old + length (named_of ((line, Alone (event_of text.now)) ∷ []))) }
+        (length events.new ≡ length events.old + length (named_of ((line, Alone (event_of chips text.now)) ∷ []))) }
     ensures refused { IfErr result (λ refusal.
-        Breaks refusal (event_rule_behind (Ok setup.now) today.old (length events.old) (event_of text.now))) }
+        Breaks refusal (event_rule_behind (Ok setup.now) today.old (length events.old) (event_of chips text.now))) }
 {
-    let named = read_event(alloc, text)?;
+    let named = read_event(alloc, text, chips)?;
     let begun = day_begun(&named);
     if let Some(rule) = order_rule(today, &begun) {
         return Err(LineRefusal::Rule(rule));
@@ -167,25 +172,35 @@ fn take(
     alloc: Global,
     script: &mut Script,
     today: &mut Option<Day>,
+    chips: u32,
     line: u64,
     text: &[u8],
 ) -> Result<(), LineRefusal>
-    ensures taken { OnOk result (Takes (line_of (line, text.now)) script.old.setup script.new.setup today.old today.new
+    ensures taken { OnOk result (Takes (line_of chips (line, text.now)) script.old.setup script.new.setup today.old today.new
         script.old.events script.new.events) }
     ensures refused { IfErr result (λ refusal. Breaks refusal
-        (broken_behind (Ok script.old.setup) today.old (length script.old.events) (line_of (line, text.now)))) }
+        (broken_behind (Ok script.old.setup) today.old (length script.old.events) (line_of chips (line, text.now)))) }
 {
     if is_setup_line(text) {
         take_setup(&mut script.setup, script.events.len(), line, text)
     } else {
-        take_event(alloc, &script.setup, &mut script.events, today, line, text)
+        take_event(
+            alloc,
+            &script.setup,
+            &mut script.events,
+            today,
+            chips,
+            line,
+            text,
+        )
     }
 }
 
-/// Reads a whole script. A fault names the first line that breaks a rule and the least rule that it breaks.
-pub fn read_script(alloc: Global, bytes: &[u8]) -> Result<Script, ScriptRefusal>
-    ensures script { IfOk result (λ script. IsScript bytes.now script.setup script.events) }
-    ensures fault { IfErr result (λ refusal. FaultOf bytes.now refusal) }
+/// Reads a whole script over so many chips. A fault names the first line that breaks a rule and the least rule that it
+/// breaks.
+pub fn read_script(alloc: Global, bytes: &[u8], chips: u32) -> Result<Script, ScriptRefusal>
+    ensures script { IfOk result (λ script. IsScript bytes.now chips script.setup script.events) }
+    ensures fault { IfErr result (λ refusal. FaultOf bytes.now chips refusal) }
 {
     let mut script = Script {
         setup: Setup::new(alloc),
@@ -195,7 +210,7 @@ pub fn read_script(alloc: Global, bytes: &[u8]) -> Result<Script, ScriptRefusal>
     let mut last: u64 = 0;
     let mut rest = bytes;
     while let Some((line, text, after)) = next_numbered(rest, last) {
-        if let Err(refusal) = take(alloc, &mut script, &mut today, line, text) {
+        if let Err(refusal) = take(alloc, &mut script, &mut today, chips, line, text) {
             return Err(refused_at(line, refusal));
         }
         last = line;

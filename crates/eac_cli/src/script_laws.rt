@@ -37,7 +37,7 @@ pub fn scripts_are_in_order()
     ensures { ScriptsAreInOrder }
 {}
 
-/// In every script the parties of an event are parties of the setup and have their parts.
+/// In every script the parties of an event are parties of the setup and have their parts, and its chip is one of the chips.
 pub fn scripts_fit()
     ensures { ScriptsFit }
 {}

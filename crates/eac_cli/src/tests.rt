@@ -1,13 +1,19 @@
 // What no clause says: that the calls find memory, and the texts and numbers of worked examples.
 //
-// The tool is called at one place, `call_over`, which gives plain values. Owned values are let go by a call of `drop`:
-// at the end of a scope, and at each `?`, every part of them would be proved apart.
-ghost use Rattle.std.specs.Prelude.{◌≤◌, ◌<◌, Some, None};
+// The tool is called at one place, `report_of`, of which `call_with` gives plain values. Owned values are let go by a
+// call of `drop`: at the end of a scope, and at each `?`, every part of them would be proved apart.
+ghost use Rattle.std.specs.Prelude.{◌≡◌, ◌≤◌, ◌<◌, Some, None, length};
 
+mod chip_lines;
+mod chips;
+mod crashes;
 mod events;
+mod grants;
 mod plans;
 
+use crate::chips::blank_chips;
 use crate::tool::{Report, Status, run_tool};
+use chip_slots::{ChipDisk, MemoryDisk};
 use eac_base::{FailPlan, Failed, MemorySink, MemorySource, Octets, Sink, Stream, Words};
 use keeper::{Keeper, KeeperPlan, MemoryKeeper, Moment};
 use signature_provider::{SignatureProvider, TableProvider};
@@ -16,6 +22,9 @@ use std::process::Abort;
 
 // Room for every journal of these tests.
 const ROOM: u64 = 4096;
+
+// How many chips there are.
+const CHIPS: u32 = 2;
 
 const FIRST: &[u8] = b"day 240101\nask DEDVBUND00001 0102\n";
 
@@ -117,19 +126,46 @@ fn keeper_of(rt: &impl Abort, alloc: Global, outside: &Outside) -> MemoryKeeper 
     MemoryKeeper::new(alloc, plan)
 }
 
-// The status, and how many events are done. No chip acknowledges here.
-fn ended(rt: &impl Abort, report: Report) -> (Status, u64) {
-    assert!(rt; report.acks.len() == 0);
+// The status, and how many events are done.
+fn ended(report: Report) -> (Status, u64) {
     let ended = (report.status, report.done);
     drop(report);
     ended
+}
+
+// Chips that aren't made yet.
+fn chips_of(rt: &impl Abort, alloc: Global) -> Vec<MemoryDisk>
+    ensures { length result.items ≡ 2 }
+{
+    blank_chips(alloc, CHIPS).expect(rt, "memory is there")
 }
 
 fn provider_of(rt: &impl Abort, alloc: Global, outside: &Outside) -> TableProvider {
     TableProvider::new(alloc, plan_of(rt, alloc, outside.sign))
 }
 
-// Calls the tool with these words over this input, sink, keeper and provider.
+// Calls the tool with these words over this input, sink, chips, keeper and provider.
+fn report_of<K: Sink, D: ChipDisk, B: Keeper, P: SignatureProvider>(
+    rt: &impl Abort,
+    alloc: Global,
+    list: &[&[u8]],
+    source: MemorySource,
+    sink: &mut K,
+    chips: &mut [D],
+    keeper: &mut B,
+    provider: &mut P,
+) -> Report
+    requires { length chips.old < 4294967296 }
+{
+    let words = words_of(rt, alloc, list);
+    let mut source = source;
+    let report = run_tool(alloc, &words, &mut source, sink, chips, keeper, provider);
+    drop(words);
+    drop(source);
+    report
+}
+
+// The same over chips that aren't made yet.
 fn call_with<K: Sink, B: Keeper, P: SignatureProvider>(
     rt: &impl Abort,
     alloc: Global,
@@ -139,12 +175,11 @@ fn call_with<K: Sink, B: Keeper, P: SignatureProvider>(
     keeper: &mut B,
     provider: &mut P,
 ) -> (Status, u64) {
-    let words = words_of(rt, alloc, list);
-    let mut source = source;
-    let report = run_tool(alloc, &words, &mut source, sink, keeper, provider);
-    drop(words);
-    drop(source);
-    ended(rt, report)
+    let mut chips = chips_of(rt, alloc);
+    let chips_now = chips.as_mut_slice();
+    let report = report_of(rt, alloc, list, source, sink, chips_now, keeper, provider);
+    drop(chips);
+    ended(report)
 }
 
 // The same over a keeper and a provider in memory.

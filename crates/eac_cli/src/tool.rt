@@ -1,5 +1,5 @@
 // The top call.
-ghost use Rattle.std.specs.Prelude.{◌≡◌, ◌≢◌, ℕ, ◌≤◌, List, [], length, None, Some, IfSome};
+ghost use Rattle.std.specs.Prelude.{◌≡◌, ◌≢◌, ℕ, ◌≤◌, ◌<◌, List, [], length, None, Some, IfSome};
 ghost use Rattle.std.specs.declared.option.Option.{Option};
 ghost use Rattle.std.specs.Io.KnownBytes.{Consumes, IsAtEnd};
 ghost use Rattle.eac_base.specs.Causes.{Rose};
@@ -10,9 +10,10 @@ ghost use Rattle.eac_cli.specs.Top.{TellsFault, TellsLength, RunCall, ShowCall, 
 ghost use Rattle.eac_cli.specs.Top.{IsRunStatus, status_of, number_of_status};
 
 use crate::plan::plan_text;
-use crate::running::{Stop, run_lines};
+use crate::running::{RunEnd, Stop, run_lines};
 use crate::script::{ScriptRefusal, read_script};
 use crate::show::show_text;
+use chip_slots::ChipDisk;
 use eac_base::{Acks, Failed, ReadRefusal, Sink, Source, Words, is_same, read_all, write_all};
 use keeper::Keeper;
 use renewal_plan::NeedRefusal;
@@ -120,12 +121,13 @@ fn command_of(words: &Words) -> Option<Command>
     }
 }
 
-fn reported(alloc: Global, status: Status, done: u64) -> Report
-    ensures { (result.status ≡ status) × (result.done ≡ done) × (result.acks.acks ≡ []) }
+// What is reported where no event was run.
+fn unrun(alloc: Global, status: Status) -> Report
+    ensures { (result.status ≡ status) × (result.done ≡ 0) × (result.acks.acks ≡ []) }
 {
     Report {
         status,
-        done,
+        done: 0,
         acks: Acks::new(alloc),
     }
 }
@@ -142,86 +144,104 @@ fn status_of(stop: Option<Stop>) -> Status
 }
 
 // Runs the script of these bytes.
-fn run_bytes<K: Sink, B: Keeper, P: SignatureProvider>(
+fn run_bytes<K: Sink, D: ChipDisk, B: Keeper, P: SignatureProvider>(
     alloc: Global,
     bytes: &[u8],
     sink: &mut K,
+    chips: &mut [D],
     keeper: &mut B,
     provider: &mut P,
-) -> (Status, u64)
-    requires { length bytes.now ≤ most_input }
+) -> Report
+    requires bytes { length bytes.now ≤ most_input }
+    requires chips { length chips.old < 4294967296 }
+    ensures chips { length chips.new ≡ length chips.old }
     ensures claim { (left : Option (List ℕ)) → IsAtEnd left
-        → Claim (run_objects K.Stream B.Keeper P.SignatureProvider sink.old keeper.old provider.old)
-        (run_objects K.Stream B.Keeper P.SignatureProvider sink.new keeper.new provider.new)
-        left result.0 result.1 bytes.now }
-    ensures cause { IsRunStatus result.0 (K.lost sink.old) (K.lost sink.new) }
-    ensures nothing { RunsNothing result.0 → (sink.new ≡ sink.old) × (keeper.new ≡ keeper.old)
-        × (provider.new ≡ provider.old) }
+        → Claim D.ChipDisk
+        (run_objects K.Stream D.ChipDisk B.Keeper P.SignatureProvider sink.old chips.old keeper.old provider.old)
+        (run_objects K.Stream D.ChipDisk B.Keeper P.SignatureProvider sink.new chips.new keeper.new provider.new)
+        left result.status result.done result.acks.acks bytes.now }
+    ensures cause { IsRunStatus result.status (K.lost sink.old) (K.lost sink.new) }
+    ensures nothing { RunsNothing result.status → (sink.new ≡ sink.old) × (chips.new ≡ chips.old)
+        × (keeper.new ≡ keeper.old) × (provider.new ≡ provider.old) × (result.acks.acks ≡ []) }
 {
-    let script = match read_script(alloc, bytes) {
+    let script = match read_script(alloc, bytes, chips.len() as u32) {
         Ok(script) => script,
         Err(ScriptRefusal::Fault { line, rule }) => {
-            return (Status::ScriptFault { line, rule }, 0);
+            return unrun(alloc, Status::ScriptFault { line, rule });
         }
-        Err(ScriptRefusal::NoMemory) => return (Status::NoMemory, 0),
+        Err(ScriptRefusal::NoMemory) => return unrun(alloc, Status::NoMemory),
     };
-    let (done, stop) = run_lines(
+    let RunEnd { done, stop, acks } = run_lines(
         alloc,
         &script.setup,
         script.events.as_slice(),
         sink,
+        chips,
         keeper,
         provider,
     );
-    (status_of(stop), done)
+    Report {
+        status: status_of(stop),
+        done,
+        acks,
+    }
 }
 
 // Reads the source, and runs the script that it has.
-fn read_and_run<S: Source, K: Sink, B: Keeper, P: SignatureProvider>(
+fn read_and_run<S: Source, K: Sink, D: ChipDisk, B: Keeper, P: SignatureProvider>(
     alloc: Global,
     source: &mut S,
     sink: &mut K,
+    chips: &mut [D],
     keeper: &mut B,
     provider: &mut P,
-) -> (Status, u64)
+) -> Report
+    requires { length chips.old < 4294967296 }
+    ensures chips { length chips.new ≡ length chips.old }
     ensures claim { (bytes : List ℕ)
         × WereRead (S.left source.old) (S.left source.new) (S.reads source.old) (S.reads source.new) bytes
-        × Claim (run_objects K.Stream B.Keeper P.SignatureProvider sink.old keeper.old provider.old)
-        (run_objects K.Stream B.Keeper P.SignatureProvider sink.new keeper.new provider.new)
-        (S.left source.new) result.0 result.1 bytes }
-    ensures nothing { RunsNothing result.0 → (sink.new ≡ sink.old) × (keeper.new ≡ keeper.old)
-        × (provider.new ≡ provider.old) }
-    ensures read { RoseFor Status.ReadFault result.0 (S.faults source.old) (S.faults source.new) }
-    ensures write { RoseFor Status.WriteFault result.0 (K.lost sink.old) (K.lost sink.new) }
-    ensures not_usage { result.0 ≢ Status.Usage }
+        × Claim D.ChipDisk
+        (run_objects K.Stream D.ChipDisk B.Keeper P.SignatureProvider sink.old chips.old keeper.old provider.old)
+        (run_objects K.Stream D.ChipDisk B.Keeper P.SignatureProvider sink.new chips.new keeper.new provider.new)
+        (S.left source.new) result.status result.done result.acks.acks bytes }
+    ensures nothing { RunsNothing result.status → (sink.new ≡ sink.old) × (chips.new ≡ chips.old)
+        × (keeper.new ≡ keeper.old) × (provider.new ≡ provider.old) × (result.acks.acks ≡ []) }
+    ensures read { RoseFor Status.ReadFault result.status (S.faults source.old) (S.faults source.new) }
+    ensures write { RoseFor Status.WriteFault result.status (K.lost sink.old) (K.lost sink.new) }
+    ensures not_usage { result.status ≢ Status.Usage }
 {
     match read_all(alloc, source, MOST_INPUT) {
-        Ok(bytes) => run_bytes(alloc, bytes.as_slice(), sink, keeper, provider),
-        Err(ReadRefusal::ReadFault) => (Status::ReadFault, 0),
-        Err(ReadRefusal::TooLong) => (Status::TooLong, 0),
-        Err(ReadRefusal::NoMemory) => (Status::NoMemory, 0),
+        Ok(bytes) => run_bytes(alloc, bytes.as_slice(), sink, chips, keeper, provider),
+        Err(ReadRefusal::ReadFault) => unrun(alloc, Status::ReadFault),
+        Err(ReadRefusal::TooLong) => unrun(alloc, Status::TooLong),
+        Err(ReadRefusal::NoMemory) => unrun(alloc, Status::NoMemory),
     }
 }
 
 // The same, and what it owes to a source that tells its bytes.
-fn run_source<S: Source, K: Sink, B: Keeper, P: SignatureProvider>(
+fn run_source<S: Source, K: Sink, D: ChipDisk, B: Keeper, P: SignatureProvider>(
     alloc: Global,
     source: &mut S,
     sink: &mut K,
+    chips: &mut [D],
     keeper: &mut B,
     provider: &mut P,
-) -> (Status, u64)
-    ensures call { RunCall
-        (objects S.Stream K.Stream B.Keeper P.SignatureProvider source.old sink.old keeper.old provider.old)
-        (objects S.Stream K.Stream B.Keeper P.SignatureProvider source.new sink.new keeper.new provider.new)
-        result.0 result.1 }
-    ensures nothing { RunsNothing result.0 → (sink.new ≡ sink.old) × (keeper.new ≡ keeper.old)
-        × (provider.new ≡ provider.old) }
-    ensures read { RoseFor Status.ReadFault result.0 (S.faults source.old) (S.faults source.new) }
-    ensures write { RoseFor Status.WriteFault result.0 (K.lost sink.old) (K.lost sink.new) }
-    ensures not_usage { result.0 ≢ Status.Usage }
+) -> Report
+    requires { length chips.old < 4294967296 }
+    ensures chips { length chips.new ≡ length chips.old }
+    ensures call { RunCall D.ChipDisk
+        (objects S.Stream K.Stream D.ChipDisk B.Keeper P.SignatureProvider
+        source.old sink.old chips.old keeper.old provider.old)
+        (objects S.Stream K.Stream D.ChipDisk B.Keeper P.SignatureProvider
+        source.new sink.new chips.new keeper.new provider.new)
+        result.status result.done result.acks.acks }
+    ensures nothing { RunsNothing result.status → (sink.new ≡ sink.old) × (chips.new ≡ chips.old)
+        × (keeper.new ≡ keeper.old) × (provider.new ≡ provider.old) × (result.acks.acks ≡ []) }
+    ensures read { RoseFor Status.ReadFault result.status (S.faults source.old) (S.faults source.new) }
+    ensures write { RoseFor Status.WriteFault result.status (K.lost sink.old) (K.lost sink.new) }
+    ensures not_usage { result.status ≢ Status.Usage }
 {
-    read_and_run(alloc, source, sink, keeper, provider)
+    read_and_run(alloc, source, sink, chips, keeper, provider)
 }
 
 // Prints what these bytes are.
@@ -333,66 +353,73 @@ fn plan_source<S: Source, K: Sink>(alloc: Global, source: &mut S, sink: &mut K) 
 
 /// Does what the words ask.
 ///
-/// `run` reads a script from the source, runs it over the keeper's rows with the provider's keys, and writes the
-/// journal to the sink, each event's line before the next event. A fault of keeper or provider is a journal line, and
-/// the run goes on. `show` reads a
+/// `run` reads a script from the source, runs it over the chips and the keeper's rows with the provider's keys, and
+/// writes the journal to the sink, each event's line before the next event. A script names a chip by its place among
+/// these from 0. A fault of keeper, provider or a chip's disk is a journal line, and the run goes on. `show` reads a
 /// card-verifiable certificate and prints its fields, or why the input is none. `plan` reads a need and prints the
 /// fewest renewals that leave none of its days without a certificate, or the first day that no plan covers.
 ///
+/// There are fewer than 2^32 chips.
+///
 /// [`Status`] says when each status comes.
-pub fn run_tool<S: Source, K: Sink, B: Keeper, P: SignatureProvider>(
+pub fn run_tool<S: Source, K: Sink, D: ChipDisk, B: Keeper, P: SignatureProvider>(
     alloc: Global,
     words: &Words,
     source: &mut S,
     sink: &mut K,
+    chips: &mut [D],
     keeper: &mut B,
     provider: &mut P,
 ) -> Report
+    requires { length chips.old < 4294967296 }
     // `Usage` exactly where the words are none of a command; then nothing was asked of the outside.
     ensures usage { result.status ≡ Status.Usage → command_of words.now ≡ None }
     ensures other_words { command_of words.now ≡ None
-        → (result.status ≡ Status.Usage) × (result.done ≡ 0) × (source.new ≡ source.old) }
+        → (result.status ≡ Status.Usage) × (result.done ≡ 0) × (source.new ≡ source.old) × (chips.new ≡ chips.old) }
     // What a command did, from the objects before the call to those after it.
     ensures run { command_of words.now ≡ Some Command.Run
-        → RunCall
-        (objects S.Stream K.Stream B.Keeper P.SignatureProvider source.old sink.old keeper.old provider.old)
-        (objects S.Stream K.Stream B.Keeper P.SignatureProvider source.new sink.new keeper.new provider.new)
-        result.status result.done }
+        → RunCall D.ChipDisk
+        (objects S.Stream K.Stream D.ChipDisk B.Keeper P.SignatureProvider
+        source.old sink.old chips.old keeper.old provider.old)
+        (objects S.Stream K.Stream D.ChipDisk B.Keeper P.SignatureProvider
+        source.new sink.new chips.new keeper.new provider.new)
+        result.status result.done result.acks.acks }
     ensures show { command_of words.now ≡ Some Command.Show
         → ShowCall
-        (objects S.Stream K.Stream B.Keeper P.SignatureProvider source.old sink.old keeper.old provider.old)
-        (objects S.Stream K.Stream B.Keeper P.SignatureProvider source.new sink.new keeper.new provider.new)
+        (objects S.Stream K.Stream D.ChipDisk B.Keeper P.SignatureProvider
+        source.old sink.old chips.old keeper.old provider.old)
+        (objects S.Stream K.Stream D.ChipDisk B.Keeper P.SignatureProvider
+        source.new sink.new chips.new keeper.new provider.new)
         result.status }
     ensures plan { command_of words.now ≡ Some Command.Plan
         → PlanCall
-        (objects S.Stream K.Stream B.Keeper P.SignatureProvider source.old sink.old keeper.old provider.old)
-        (objects S.Stream K.Stream B.Keeper P.SignatureProvider source.new sink.new keeper.new provider.new)
+        (objects S.Stream K.Stream D.ChipDisk B.Keeper P.SignatureProvider
+        source.old sink.old chips.old keeper.old provider.old)
+        (objects S.Stream K.Stream D.ChipDisk B.Keeper P.SignatureProvider
+        source.new sink.new chips.new keeper.new provider.new)
         result.status }
-    // `show` and `plan` ask for no row and no key, and an input that isn't run leaves sink, keeper and provider alone.
-    ensures show_keeps { command_of words.now ≡ Some Command.Show → (result.done ≡ 0) × (keeper.new ≡ keeper.old)
-        × (provider.new ≡ provider.old) }
-    ensures plan_keeps { command_of words.now ≡ Some Command.Plan → (result.done ≡ 0) × (keeper.new ≡ keeper.old)
-        × (provider.new ≡ provider.old) }
-    ensures nothing { RunsNothing result.status → (sink.new ≡ sink.old) × (keeper.new ≡ keeper.old)
-        × (provider.new ≡ provider.old) }
+    // `show` and `plan` ask for no chip, no row and no key, and an input that isn't run leaves all but the source alone.
+    ensures show_keeps { command_of words.now ≡ Some Command.Show → (result.done ≡ 0) × (chips.new ≡ chips.old)
+        × (keeper.new ≡ keeper.old) × (provider.new ≡ provider.old) × (result.acks.acks ≡ []) }
+    ensures plan_keeps { command_of words.now ≡ Some Command.Plan → (result.done ≡ 0) × (chips.new ≡ chips.old)
+        × (keeper.new ≡ keeper.old) × (provider.new ≡ provider.old) × (result.acks.acks ≡ []) }
+    ensures nothing { RunsNothing result.status → (sink.new ≡ sink.old) × (chips.new ≡ chips.old)
+        × (keeper.new ≡ keeper.old) × (provider.new ≡ provider.old) × (result.acks.acks ≡ []) }
+    ensures chips { length chips.new ≡ length chips.old }
     // A failure of the outside is told just where that object counted one.
     ensures read { RoseFor Status.ReadFault result.status (S.faults source.old) (S.faults source.new) }
     ensures write { RoseFor Status.WriteFault result.status (K.lost sink.old) (K.lost sink.new) }
-    ensures acks { result.acks.acks ≡ [] }
 {
     match command_of(words) {
-        None => reported(alloc, Status::Usage, 0),
-        Some(Command::Run) => {
-            let (status, done) = run_source(alloc, source, sink, keeper, provider);
-            reported(alloc, status, done)
-        }
+        None => unrun(alloc, Status::Usage),
+        Some(Command::Run) => run_source(alloc, source, sink, chips, keeper, provider),
         Some(Command::Show) => {
             let status = show_source(alloc, source, sink);
-            reported(alloc, status, 0)
+            unrun(alloc, status)
         }
         Some(Command::Plan) => {
             let status = plan_source(alloc, source, sink);
-            reported(alloc, status, 0)
+            unrun(alloc, status)
         }
     }
 }

@@ -63,7 +63,7 @@ use Rattle.eac_net.specs.declared.world.World.{World}
 use Rattle.eac_net.proofs.Concluded.{concluded, between_after, same_day}
 use Rattle.eac_net.proofs.EventKinds.{some_party}
 use Rattle.eac_net.proofs.Finding.{none_some, asked_signs}
-use Rattle.eac_net.proofs.Going.{KeepsRows, keeps_same, held_more, good_more, answers_to, moved_standing, goes_by, item}
+use Rattle.eac_net.proofs.Going.{KeepsRows, keeps_same, held_more, good_more, answers_to, moved_standing, goes_by, item, none_called, none_acked}
 use Rattle.eac_net.proofs.Grows.{readable_append, held_append, good_append, AddsGood, key_named_more}
 use Rattle.eac_net.proofs.Lawfulness.{lawful_after}
 use Rattle.eac_net.proofs.Naming.{IsNamed, own_named_is, home_named_is}
@@ -259,7 +259,7 @@ module _ (setup : SetupValue) (setup_is : IsSetup setup) (holder authority root 
 
 -- ---- as a step
 
-module _ (setup : SetupValue) (setup_is : IsSetup setup) (holder authority root : ℕ) (fits : ApplyFits setup holder authority root) (w w' : World) (o o' : Outside) (result : Result Answered HolderFault)
+module _ (setup : SetupValue) (setup_is : IsSetup setup) (holder authority root : ℕ) (fits : ApplyFits setup holder authority root) (w w' : World) (o o' : Outside) (same_disks : o'.disks ≡ o.disks) (result : Result Answered HolderFault)
     (cause : HolderCause (MissesApplying setup o.holds holder authority root) (o.keeper_faults, o'.keeper_faults) (o.provider_faults, o'.provider_faults) result)
     (provider : StaysTrue o.says o'.says o.holds o'.holds o.signed o'.signed) (bodiless : SignsNoBody (o.signed, o'.signed)) where
   abbrev event : Event
@@ -307,11 +307,12 @@ module _ (setup : SetupValue) (setup_is : IsSetup setup) (holder authority root 
                   event = record { result = result; does = asked.2; cause = cause; ends = d.ends };
                   signed = bodiless;
                 };
-              }) provider;
+              }) (none_called event d.answer [] w w' o o' same_disks c.imports) provider;
           rows = told_more (λ before after. Does before after result)
               (λ (x x' : List Row). (s : State) → IsAt setup w o x s → GoesOn setup (item setup event d.answer w w' o o') w' o o' x x' s)
               o.rows o'.rows does (λ x x' one s there. goes_applied d.answer d.ends x x' one s there);
           parties = between_after setup (moment_at w o).parties (moment_at w' o').parties d.answer (said w.packets result) (request_sent holder authority result) was (call_between setup holder authority root fits result) (All-nil (IsBetween setup)) d.ends;
+          acks = none_acked w w' c.acks;
         },
         d.told,
       )

@@ -1,4 +1,5 @@
 -- What a delivery is by the packet that came, and the objects around it.
+use Rattle.chip_events.specs.DiskTurns.{DiskKnown}
 use Rattle.std.proofs.Common.{◌≡◌, ℕ, Bool, true, false, cond, List, [], ◌∷◌, Some, None, inr, refl, sym, subst, nat_eq}
 use Rattle.std.specs.Prelude.{IfSome, slice_get, ◌-◌}
 use Rattle.std.specs.declared.option.Option.{Option}
@@ -23,14 +24,15 @@ use Rattle.eac_net.specs.declared.packet.Packet.{Packet}
 
 -- ---- the objects, by what keeper and provider tell
 
-abbrev pub outside_of : Around → Outside
-outside_of k = record {
+abbrev pub outside_of : (ℕ → DiskKnown) → Around → Outside
+outside_of disks k = record {
   rows = k.keeper.rows;
   keeper_faults = k.keeper.faults;
   says = k.provider.says;
   holds = k.provider.holds;
   signed = k.provider.signed;
   provider_faults = k.provider.faults;
+  disks = disks;
 }
 
 -- ---- the packet

@@ -52,6 +52,7 @@ module _ (setup : SetupValue) (event : Event) (answer : Option Answer) (asked : 
         lawful = subst (AreLawful setup) (sym at.rows_are) at.lawful;
         keys = subst (AllHeld o.holds) (sym at.rows_are) at.held;
         turn = turn;
+        handed = tt;
         verdicts = verdicts;
         unrefused = said_are_passed o.says (all_made setup s.rows) asked (subst (λ (rows : List Row). AreGood o.says (all_made setup rows)) (sym at.rows_are) at.good) said;
       };

@@ -342,7 +342,7 @@ LinkAsked desk m d t x = AsksLink m.held m.holds desk d t m.says m.signed x
 abbrev LinkMisses : ℕ → Meanings → ℕ → Terms → List ℕ → Type 0
 LinkMisses desk m d t reference = MissesLink m.held desk d t reference
 
-module _ (setup : SetupValue) (desk : ℕ) (a : IsAuthority setup desk) (w w' : World) (o o' : Outside) (day : ℕ) (today : w.day ≡ Some day) (provider : StaysTrue o.says o'.says o.holds o'.holds o.signed o'.signed) (was : AreBetween setup w.packets) where
+module _ (setup : SetupValue) (desk : ℕ) (a : IsAuthority setup desk) (w w' : World) (o o' : Outside) (same_disks : o'.disks ≡ o.disks) (day : ℕ) (today : w.day ≡ Some day) (provider : StaysTrue o.says o'.says o.holds o'.holds o.signed o'.signed) (was : AreBetween setup w.packets) where
   abbrev m : Meanings
   m = means (moment_at w o) (moment_at w' o')
 
@@ -368,7 +368,7 @@ module _ (setup : SetupValue) (desk : ℕ) (a : IsAuthority setup desk) (w w' : 
       Told o.rows o'.rows (Founding result) → AsksFounding o.holds o'.holds day a.t o'.says (o.signed, o'.signed) result → HasStepped setup (events.Found desk) r (w, line) (w', line') o o'
   found_steps happened r line line' result c tells cause told asked =
       signed_steps setup (events.Found desk) desk answers.Founded (FoundDoes desk) (FoundDue desk) FoundAsked FoundMisses
-      (λ n s s' answer e. e) (λ n s s' answer e. e) w w' o o' day today a.t a.terms_are result cause provider happened r line line' c tells
+      (λ n s s' answer e. e) (λ n s s' answer e. e) (λ i x. x) w w' o o' same_disks day today a.t a.terms_are result cause provider happened r line line' c tells
       (told_more (Founding result) (FoundCall result) o.rows o'.rows told (found_call result)) asked was
 
   abbrev Linking : Result Linked HolderFault → List Row → List Row → Type 0
@@ -394,5 +394,5 @@ module _ (setup : SetupValue) (desk : ℕ) (a : IsAuthority setup desk) (w w' : 
       Told o.rows o'.rows (Linking result) → AsksLink o.holds o'.holds desk day a.t o'.says (o.signed, o'.signed) result → HasStepped setup (events.Link desk) r (w, line) (w', line') o o'
   link_steps happened r line line' result c tells cause told asked =
       signed_steps setup (events.Link desk) desk answers.Linked (LinkDoes desk) (LinkDue desk) (LinkAsked desk) (LinkMisses desk)
-      (λ n s s' answer e. e) (λ n s s' answer e. e) w w' o o' day today a.t a.terms_are result cause provider happened r line line' c tells
+      (λ n s s' answer e. e) (λ n s s' answer e. e) (λ i x. x) w w' o o' same_disks day today a.t a.terms_are result cause provider happened r line line' c tells
       (told_more (Linking result) (LinkCall result) o.rows o'.rows told (link_call result)) asked was

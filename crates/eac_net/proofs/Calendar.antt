@@ -10,7 +10,7 @@ use Rattle.eac_net.specs.Steps.{GoesOn, HasStepped}
 use Rattle.eac_net.specs.declared.answer.Answer.TheVariants as answers
 use Rattle.eac_net.specs.declared.event.Event.TheVariants as events
 use Rattle.eac_net.specs.declared.world.World.{World}
-use Rattle.eac_net.proofs.Going.{answers_to, goes_by, keeps_same, still_true, item}
+use Rattle.eac_net.proofs.Going.{answers_to, goes_by, keeps_same, still_true, item, none_called}
 
 module _ (setup : SetupValue) (day : ℕ) (w : World) (o : Outside) where
   abbrev later : World
@@ -30,10 +30,11 @@ module _ (setup : SetupValue) (day : ℕ) (w : World) (o : Outside) where
       from = refl;
       to = refl;
       answers = answers_to setup (events.Day day) (Some answers.Silent) w later o o
-          (record { none = refl; still = record { says = refl; holds = refl; signed = refl }; event = (refl, refl) }) (still_true o.says o.holds o.signed);
+          (record { none = refl; still = record { says = refl; holds = refl; signed = refl }; event = (refl, refl) }) (none_called (events.Day day) (Some answers.Silent) [] w later o o refl refl) (still_true o.says o.holds o.signed);
       rows = told_same (λ (before after : List Row). (s : State) → IsAt setup w o before s → GoesOn setup (item setup (events.Day day) (Some answers.Silent) w later o o) later o o before after s) o.rows
           (λ before s there. goes_later before s there);
       parties = was;
+      acks = sym (append-nil w.acks.acks);
     },
     sym (append-nil line),
   )

@@ -1,5 +1,5 @@
 -- A fault that is told has a risen count.
-use Rattle.std.proofs.Common.{◌≡◌, ℕ, List, Some, None, Ok, Err, inl, inr, subst}
+use Rattle.std.proofs.Common.{◌≡◌, ℕ, List, Some, None, Ok, Err, inl, inr, refl, ap, subst}
 use Rattle.std.specs.declared.option.Option.{Option}
 use Rattle.std.specs.declared.result.Result.{Result}
 use Rattle.eac_base.specs.Causes.{Rose}
@@ -21,6 +21,8 @@ use Rattle.desk_core.specs.Replies.{request_served, list_served, received_by}
 use Rattle.eac_net.specs.Answers.{answer_by, outcome_answer}
 use Rattle.eac_net.specs.Arrival.{Arrival, NotSent, NoCall, AsksCertificate, AsksList, Brings, IsDeclined, NoReply, BringsBack, Notes, arrival}
 use Rattle.eac_net.specs.Asking.{Counts}
+use Rattle.eac_net.specs.ChipSays.{ChipSays}
+use Rattle.eac_net.specs.Chips.{chip_in}
 use Rattle.eac_net.specs.Delivered.{served_answer, took_answer}
 use Rattle.eac_net.specs.Delivering.{ArrivesSo, DeliverAnswers}
 use Rattle.eac_net.specs.Ending.{Ends}
@@ -38,11 +40,13 @@ use Rattle.eac_net.specs.declared.answer.Fault.TheVariants as faults
 use Rattle.eac_net.specs.declared.event.Event.{Event}
 use Rattle.eac_net.specs.declared.event.Event.TheVariants as events
 use Rattle.eac_net.specs.declared.packet.Packet.{Packet}
+use Rattle.eac_net.proofs.ChipCauses.{chip_fault_caused}
 
--- by the two counts
+-- by the two counts of parties
 abbrev Rises : Fault → (s s' : Standing) → Type 0
 Rises faults.Keeper s s' = Rose s.keeper s'.keeper
 Rises faults.Provider s s' = Rose s.provider s'.provider
+Rises faults.Disk s s' = ⊥
 Rises (faults.Key reference) s s' = Unit {0}
 
 -- what was told at the end was told of the result
@@ -143,22 +147,27 @@ module _ (setup : SetupValue) (m : Meanings) (s : Standing) (answer : Option Ans
 -- ---- any event
 
 module _ (setup : SetupValue) (i : Ran) (f : Fault) where
-  by_event : (e : Event) → Says setup (means i.from i.to) i.from.parties e i.answer i.asked i.to.parties → HasFault f i.answer → Rises f i.from.parties i.to.parties
-  by_event (events.Day day) x h = absurd (subst (HasFault f) x.event.0 h)
-  by_event (events.Ask reference bytes) x h = register_rises reference i.from.parties i.to.parties x.event.outcome x.event.counts f (subst (HasFault f) x.event.told h)
-  by_event (events.Found authority) x h = let a = x.event.event in rises_by _ answers.Founded (λ a f h. h) i.from.parties i.to.parties a.result a.cause f (told_of i.from.parties i.to.parties i.answer _ _ f a.ends h)
-  by_event (events.Link authority) x h = let a = x.event.event in rises_by _ answers.Linked (λ a f h. h) i.from.parties i.to.parties a.result a.cause f (told_of i.from.parties i.to.parties i.answer _ _ f a.ends h)
-  by_event (events.Trust party authority) x h = let a = x.event in keeper_rises answers.Trusted (λ a f h. h) i.from.parties i.to.parties a.result a.cause f (told_of i.from.parties i.to.parties i.answer _ _ f a.ends h)
-  by_event (events.Apply holder authority root) x h = let a = x.event.event in rises_by _ _ (λ a f h. h) i.from.parties i.to.parties a.result a.cause f (told_of i.from.parties i.to.parties i.answer _ _ f a.ends h)
-  by_event (events.Fetch party desk) x h = absurd (told_of i.from.parties i.to.parties i.answer _ _ f x.event.ends h)
-  by_event (events.Send from to bytes) x h = absurd (told_of i.from.parties i.to.parties i.answer _ _ f x.event.ends h)
-  by_event (events.Push desk party) x h = let a = x.event in keeper_rises _ (λ a f h. h) i.from.parties i.to.parties a.result a.cause f (told_of i.from.parties i.to.parties i.answer _ _ f a.ends h)
-  by_event (events.Deliver number) x h = delivered_rises setup (means i.from i.to) i.from.parties i.answer i.asked i.to.parties f h number x
+  risen : (g : Fault) → Rises g i.from.parties i.to.parties → HasRisen g i
+  risen faults.Keeper h = h
+  risen faults.Provider h = h
+  risen faults.Disk h = absurd h
+  risen (faults.Key reference) h = tt
 
-risen : (i : Ran) (f : Fault) → Rises f i.from.parties i.to.parties → HasRisen f i
-risen i faults.Keeper h = h
-risen i faults.Provider h = h
-risen i (faults.Key reference) h = tt
+  by_event : (e : Event) → Says setup (means i.from i.to) i.from.parties e i.answer i.asked i.to.parties → ChipSays e i → i.event ≡ e → HasFault f i.answer → HasRisen f i
+  by_event (events.Day day) x c is h = absurd (subst (HasFault f) x.event.0 h)
+  by_event (events.Ask reference bytes) x c is h = risen f (register_rises reference i.from.parties i.to.parties x.event.outcome x.event.counts f (subst (HasFault f) x.event.told h))
+  by_event (events.Found authority) x c is h = let a = x.event.event in risen f (rises_by _ answers.Founded (λ a f h. h) i.from.parties i.to.parties a.result a.cause f (told_of i.from.parties i.to.parties i.answer _ _ f a.ends h))
+  by_event (events.Link authority) x c is h = let a = x.event.event in risen f (rises_by _ answers.Linked (λ a f h. h) i.from.parties i.to.parties a.result a.cause f (told_of i.from.parties i.to.parties i.answer _ _ f a.ends h))
+  by_event (events.Trust party authority) x c is h = let a = x.event in risen f (keeper_rises answers.Trusted (λ a f h. h) i.from.parties i.to.parties a.result a.cause f (told_of i.from.parties i.to.parties i.answer _ _ f a.ends h))
+  by_event (events.Apply holder authority root) x c is h = let a = x.event.event in risen f (rises_by _ _ (λ a f h. h) i.from.parties i.to.parties a.result a.cause f (told_of i.from.parties i.to.parties i.answer _ _ f a.ends h))
+  by_event (events.Fetch party desk) x c is h = absurd (told_of i.from.parties i.to.parties i.answer _ _ f x.event.ends h)
+  by_event (events.Send from to bytes) x c is h = absurd (told_of i.from.parties i.to.parties i.answer _ _ f x.event.ends h)
+  by_event (events.Push desk party) x c is h = let a = x.event in risen f (keeper_rises _ (λ a f h. h) i.from.parties i.to.parties a.result a.cause f (told_of i.from.parties i.to.parties i.answer _ _ f a.ends h))
+  by_event (events.Deliver number) x c is h = risen f (delivered_rises setup (means i.from i.to) i.from.parties i.answer i.asked i.to.parties f h number x)
+  by_event (events.Make chip authority) x c is h = chip_fault_caused chip i f c h (ap chip_in is)
+  by_event (events.Present chip terminal) x c is h = chip_fault_caused chip i f c h (ap chip_in is)
+  by_event (events.Import chip bytes) x c is h = chip_fault_caused chip i f c h (ap chip_in is)
+  by_event (events.Look chip) x c is h = chip_fault_caused chip i f c h (ap chip_in is)
 
 pub faults_have_causes : FaultsHaveCauses
-faults_have_causes setup i f a h = risen i f (by_event setup i f i.event a.says h)
+faults_have_causes setup i f a h = by_event setup i f i.event a.says a.chips refl h

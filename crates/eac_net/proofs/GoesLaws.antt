@@ -1,6 +1,7 @@
 -- Items lead on by one, and what each step keeps holds at the end.
-use Rattle.std.proofs.Common.{◌≡◌, List, [], ◌∷◌, ◌++◌, refl, sym, ap, ◌∙◌, subst, append-nil, append_assoc}
-use Rattle.std.specs.Prelude.{flat_map}
+use Rattle.std.proofs.Common.{◌≡◌, Bool, true, false, cond, List, [], ◌∷◌, ◌++◌, refl, sym, ap, ◌∙◌, subst, append-nil, append_assoc}
+use Rattle.std.specs.Prelude.{flat_map, filter}
+use Rattle.std.proofs.lemmas.List.Elements.{filter-append}
 use Rattle.eac_net.specs.Goes.{Goes}
 
 module _ {S I : Type 0} (step : S → I → S → Type 0) where
@@ -12,3 +13,19 @@ module _ {I A : Type 0} (f : I → List A) where
   pub flat_more : (items : List I) (i : I) → flat_map f (items ++ i ∷ []) ≡ flat_map f items ++ f i
   flat_more [] i = append-nil (f i)
   flat_more (x ∷ items) i = ap (λ (l : List A). f x ++ l) (flat_more items i) ∙ sym (append_assoc (f x) (flat_map f items) (f i))
+
+-- items of which none passes the test leave out nothing
+module _ {I : Type 0} (test : I → Bool) where
+  cond_true : (b : Bool) (i : I) → b ≡ true → cond b (i ∷ []) [] ≡ i ∷ []
+  cond_true true i is = refl
+  cond_true false i is = absurd (cc)
+
+  cond_false : (b : Bool) (i : I) → b ≡ false → cond b (i ∷ []) [] ≡ []
+  cond_false true i is = absurd (cc)
+  cond_false false i is = refl
+
+  pub own_more : (items : List I) (i : I) → test i ≡ true → filter test (items ++ i ∷ []) ≡ filter test items ++ i ∷ []
+  own_more items i is = filter-append test items (i ∷ []) ∙ ap (λ (l : List I). filter test items ++ l) (cond_true (test i) i is)
+
+  pub own_same : (items : List I) (i : I) → test i ≡ false → filter test (items ++ i ∷ []) ≡ filter test items
+  own_same items i is = filter-append test items (i ∷ []) ∙ ap (λ (l : List I). filter test items ++ l) (cond_false (test i) i is) ∙ append-nil (filter test items)

@@ -1,5 +1,5 @@
 -- An event as a step between objects, by its turn and what is known of it.
-use Rattle.std.proofs.Common.{◌≡◌, List, [], ◌++◌, Some, None, true, sym, ap, ◌∙◌, subst, append-nil}
+use Rattle.std.proofs.Common.{◌≡◌, ℕ, List, [], ◌++◌, Some, None, true, refl, sym, ap, ◌∙◌, subst, append-nil}
 use Rattle.std.specs.Prelude.{IsSome, IfSome}
 use Rattle.std.specs.declared.option.Option.{Option}
 use Rattle.std.proofs.lemmas.List.Elements.{All-nil, All-weaker}
@@ -10,6 +10,10 @@ use Rattle.policy_limits.specs.Setup.{SetupValue}
 use Rattle.keeper.specs.declared.rows.Row.{Row}
 use Rattle.keeper.specs.declared.rows.OwnPart.{OwnPart}
 use Rattle.holder_core.specs.OwnRows.{own_part}
+use Rattle.eac_base.specs.Acknowledged.{AcksValue}
+use Rattle.chip_events.specs.DiskTurns.{DiskKnown}
+use Rattle.eac_net.specs.ChipSays.{OfNone, ChipSays}
+use Rattle.eac_net.specs.Counts.{count_at}
 use Rattle.eac_net.specs.Items.{Ran, ran}
 use Rattle.eac_net.specs.Lawful.{AreLawful}
 use Rattle.eac_net.specs.Made.{Made, all_made, IsGood, AreGood, IfRefused}
@@ -61,15 +65,29 @@ keeps_same setup said says held holds rows says_more holds_more = record {
 pub still_true : (says : Says) (holds : Holds) (signed : Signed) → StaysTrue says says holds holds signed signed
 still_true says holds signed = record { says_more = λ key message signature h. h; holds_more = λ key h. h; honest = λ h. h }
 
+-- ---- no chip was called
+
+module _ (event : Event) (answer : Option Answer) (asked : List Verdict) (w w' : World) (o o' : Outside) where
+  pub none_called : o'.disks ≡ o.disks → w'.imports ≡ w.imports → OfNone (ran event answer asked (moment_at w o) (moment_at w' o'))
+  none_called disks imports = record {
+    handed = refl;
+    acks = refl;
+    others = λ other. record { disk = ap (λ (f : ℕ → DiskKnown). f other) disks; imports = ap (λ (l : List ℕ). count_at l other) imports };
+  }
+
+-- and no import was acknowledged
+pub none_acked : (w w' : World) → w'.acks ≡ w.acks → w'.acks.acks ≡ w.acks.acks ++ []
+none_acked w w' same = ap (λ (a : AcksValue). a.acks) same ∙ sym (append-nil w.acks.acks)
+
 -- ---- one event that asked nothing
 
 module _ (setup : SetupValue) (event : Event) (answer : Option Answer) (w w' : World) (o o' : Outside) where
   abbrev pub item : Ran
   item = ran event answer [] (moment_at w o) (moment_at w' o')
 
-  pub answers_to : SaysTo setup (means (moment_at w o) (moment_at w' o')) (moment_at w o).parties event answer [] (moment_at w' o').parties →
+  pub answers_to : SaysTo setup (means (moment_at w o) (moment_at w' o')) (moment_at w o).parties event answer [] (moment_at w' o').parties → ChipSays event item →
       StaysTrue o.says o'.says o.holds o'.holds o.signed o'.signed → AnswersTo setup item
-  answers_to says provider = record { says = says; asked = All-nil (λ (v : Verdict). v.yes ≡ said_of o.says v.question); provider = provider }
+  answers_to says chips provider = record { says = says; chips = chips; asked = All-nil (λ (v : Verdict). v.yes ≡ said_of o.says v.question); provider = provider }
 
   -- the standing of a state that moved
   pub moved_standing : (s : State) (before after : List Row) → w'.day ≡ w.day → IsAt setup w o before s → standing_of (moved s (moment_at w' o').parties after) ≡ (moment_at w' o').parties
@@ -90,6 +108,7 @@ module _ (setup : SetupValue) (event : Event) (answer : Option Answer) (w w' : W
         lawful = subst (AreLawful setup) (sym at.rows_are) at.lawful;
         keys = subst (AllHeld o.holds) (sym at.rows_are) at.held;
         turn = turn;
+        handed = tt;
         verdicts = verdicts ∙ sym (append-nil s.verdicts);
         unrefused = All-nil (λ (v : Verdict). IfRefused (all_made setup s.rows) v.question v.yes);
       };

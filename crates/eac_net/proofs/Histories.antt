@@ -1,15 +1,15 @@
 -- What a history tells: each desk's deliveries are one story, and at its end what ran is a run.
-use Rattle.std.proofs.Common.{◌≡◌, ◌⊎◌, inl, inr, ℕ, ◌≤◌, List, [], ◌∷◌, ◌++◌, refl, sym, ap, ◌∙◌, subst, arith, append-nil, append_assoc}
+use Rattle.std.proofs.Common.{◌≡◌, inl, inr, ℕ, ◌≤◌, List, [], ◌∷◌, ◌++◌, refl, sym, ap, ◌∙◌, subst, arith, append-nil, append_assoc}
 use Rattle.eac_base.specs.Causes.{Rose}
 use Rattle.eac_base.proofs.Tellings.{told_more}
 use Rattle.signature_provider.specs.Provider.{Says, SaysMore}
 use Rattle.policy_limits.specs.Setup.{SetupValue}
+use Rattle.chip_slots.specs.declared.disk.ChipDisk.{Ghosts as DiskOf}
 use Rattle.keeper.specs.declared.rows.Row.{Row}
-use Rattle.issue_core.specs.Registering.Desk.{Asked, register, unsigned, entries_of}
+use Rattle.issue_core.specs.Registering.Desk.{register, unsigned, entries_of}
 use Rattle.issue_core.specs.Issuing.Desk.{issuing, is_signed}
 use Rattle.issue_core.specs.Issuing.Rows.{entries_at}
-use Rattle.issue_core.specs.Issuing.Signed.{Pair}
-use Rattle.ledger.specs.Ledger.{entries}
+use Rattle.eac_net.specs.Counts.{count_at}
 use Rattle.eac_net.specs.Items.{Ran, events_of, asked_of}
 use Rattle.eac_net.specs.Laws.{SoFarIsRun}
 use Rattle.eac_net.specs.Moment.{Moment, means}
@@ -19,10 +19,10 @@ use Rattle.eac_net.specs.SoFar.{IsStart, begin, Reached, SoFar}
 use Rattle.eac_net.specs.State.{State, Standing}
 use Rattle.eac_net.specs.Steps.{later_day}
 use Rattle.eac_net.specs.Turn.{History}
-use Rattle.eac_net.specs.Untold.{RanStep, AreRan}
+use Rattle.eac_net.specs.Untold.{AreRan}
 use Rattle.eac_net.specs.Verdicts.{Verdict}
-use Rattle.eac_net.specs.declared.event.Event.{Event}
 use Rattle.eac_net.specs.declared.world.World.{World}
+use Rattle.eac_net.proofs.ChipRuns.{ChipsSurvive, chip_tells}
 use Rattle.eac_net.proofs.Ledgers.{is_signed_more}
 use Rattle.eac_net.proofs.Pieces.{TellsOn, tells_same, tells_then, tells_later, tells_all}
 use Rattle.eac_net.proofs.TrueVerdicts.{providers_grow, verdicts_are_true}
@@ -87,7 +87,7 @@ history_tells setup first last s t (i ∷ items) ran h =
 
 -- ---- a run
 
-module _ (setup : SetupValue) (first o : Outside) (w : World) (items : List Ran) (so : SoFar setup first w o items) where
+module _ {D : Type 0} (G : DiskOf D) (setup : SetupValue) (first o : Outside) (disks now : List D) (w : World) (items : List Ran) (so : SoFar G setup first disks w o now items) where
   rows_tell : (before after : List Row) → Reached setup first w o items before after → RowsTell setup first o before after items
   rows_tell before after r =
       let h = history_tells setup (first_moment first) (moment_at w o) (begin first before) r.state items so.ran r.history in
@@ -114,15 +114,18 @@ module _ (setup : SetupValue) (first o : Outside) (w : World) (items : List Ran)
       by still (inl none) = none
       by still (inr rose) = absurd (still (subst (λ (n : ℕ). Rose first.keeper_faults n) (ap (λ (x : Standing). x.keeper) r.there.standing) rose))
 
-pub run_of : SoFarIsRun
-run_of setup first o w items so = record {
+pub run_of : {D : Type 0} (G : DiskOf D) → ChipsSurvive → SoFarIsRun G
+run_of G survive setup first o disks now w items so = record {
   items = items;
   events_are = refl;
   answers_are = refl;
+  acks_are = so.acks;
   day = w.day;
   packets = w.packets;
+  imports = count_at w.imports;
   ran = so.ran;
   verdicts = verdicts_are_true setup (first_moment first) (moment_at w o) items so.ran;
   told = told_more (λ before after. IsStart setup first before → Reached setup first w o items before after) (λ before after. IsStart setup first before → RowsTell setup first o before after items)
-      first.rows o.rows so.rows (λ before after reach start. rows_tell setup first o w items so before after (reach start));
+      first.rows o.rows so.rows (λ before after reach start. rows_tell G setup first o disks now w items so before after (reach start));
+  chips = λ chip d d' was is tells blank. chip_tells G survive setup chip (first_moment first) (moment_at w o) items d d' so.ran (so.chips chip d d' was is tells blank);
 }

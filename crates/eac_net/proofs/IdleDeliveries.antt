@@ -23,7 +23,7 @@ use Rattle.eac_net.specs.declared.packet.Packet.{Packet}
 use Rattle.eac_net.specs.declared.world.World.{World}
 use Rattle.eac_net.proofs.Arrivals.{IsThat, says_that, turns_that}
 use Rattle.eac_net.proofs.Concluded.{concluded, between_after, same_day}
-use Rattle.eac_net.proofs.Going.{answers_to, moved_standing, goes_by, keeps_same, still_true, item}
+use Rattle.eac_net.proofs.Going.{answers_to, moved_standing, goes_by, keeps_same, still_true, item, none_called, none_acked}
 
 -- ---- with this answer, and these packets sent
 
@@ -63,10 +63,11 @@ module _ (setup : SetupValue) (number : ℕ) (w w' : World) (o : Outside) (p : O
           answers = answers_to setup (events.Deliver number) d.answer w w' o o
               (says_that setup number w.packets p came that m d.answer was [] now refl
               (so m was now d.answer (record { none = refl; still = record { says = refl; holds = refl; signed = refl }; event = idles })))
-              (still_true o.says o.holds o.signed);
+              (none_called (events.Deliver number) d.answer [] w w' o o refl c.imports) (still_true o.says o.holds o.signed);
           rows = told_same (λ (before after : List Row). (s : State) → IsAt setup w o before s → GoesOn setup (item setup (events.Deliver number) d.answer w w' o o) w' o o before after s) o.rows
               (λ before s there. idle_goes d.answer idles before s there);
           parties = between_after setup was now d.answer (said w.packets) sent before between (All-nil (IsBetween setup)) d.ends;
+          acks = none_acked w w' c.acks;
         },
         d.told,
       )
@@ -116,10 +117,11 @@ module _ (setup : SetupValue) (number : ℕ) (w w' : World) (o : Outside) where
           to = refl;
           answers = answers_to setup (events.Deliver number) d.answer w w' o o
               (inl (record { none = refl; still = record { says = refl; holds = refl; signed = refl }; event = (n.none, n.same) }))
-              (still_true o.says o.holds o.signed);
+              (none_called (events.Deliver number) d.answer [] w w' o o refl c.imports) (still_true o.says o.holds o.signed);
           rows = told_same (λ (before after : List Row). (s : State) → IsAt setup w o before s → GoesOn setup (item setup (events.Deliver number) d.answer w w' o o) w' o o before after s) o.rows
               (λ before s there. nothing_goes d.answer n before s there);
           parties = between_after setup first last d.answer None [] before (All-nil (IsBetween setup)) (All-nil (IsBetween setup)) d.ends;
+          acks = none_acked w w' c.acks;
         },
         d.told,
       )

@@ -1,4 +1,6 @@
 -- An event of a party that asks the keeper alone.
+use Rattle.eac_net.specs.Items.{Ran}
+use Rattle.eac_net.specs.ChipSays.{OfNone, ChipSays}
 use Rattle.std.proofs.Common.{ℕ, List, [], ◌++◌, refl, sym, subst, append-nil}
 use Rattle.std.specs.declared.option.Option.{Option}
 use Rattle.std.specs.declared.result.Result.{Result}
@@ -25,7 +27,7 @@ use Rattle.eac_net.specs.declared.event.Event.{Event}
 use Rattle.eac_net.specs.declared.packet.Packet.{Packet}
 use Rattle.eac_net.specs.declared.world.World.{World}
 use Rattle.eac_net.proofs.Concluded.{concluded, between_after, same_day}
-use Rattle.eac_net.proofs.Going.{KeepsRows, answers_to, moved_standing, goes_by, still_true, item}
+use Rattle.eac_net.proofs.Going.{KeepsRows, answers_to, moved_standing, goes_by, still_true, item, none_called, none_acked}
 use Rattle.eac_net.proofs.Stays.{unsigned_traced}
 
 module _ {A : Type 0} (setup : SetupValue) (event : Event) (said : List Packet → Result A HolderFault → Option Answer) (sent : Result A HolderFault → List Packet)
@@ -34,7 +36,7 @@ module _ {A : Type 0} (setup : SetupValue) (event : Event) (said : List Packet �
     (turn : (m : Meanings) (s s' : State) (answer : Option Answer) → Moves s (λ rows now. KeeperActs (standing_of s) answer now (said s.packets) sent (Does s.rows rows)) s' → Turn setup m s event answer s')
     (keeps : (says : Saying) (holds : Holds) (before after : List Row) (result : Result A HolderFault) → Does before after result → KeepsRows setup says says holds holds before after)
     (between : (result : Result A HolderFault) → AreBetween setup (sent result))
-    (w w' : World) (beside : Outside) (rows rows' : Option (List Row)) (before now : ℕ) (result : Result A HolderFault) (cause : KeeperCaused before now result) where
+    (chips : (i : Ran) → OfNone i → ChipSays event i) (w w' : World) (beside : Outside) (rows rows' : Option (List Row)) (before now : ℕ) (result : Result A HolderFault) (cause : KeeperCaused before now result) where
   abbrev o : Outside
   o = record beside { rows = rows; keeper_faults = before }
 
@@ -68,11 +70,12 @@ module _ {A : Type 0} (setup : SetupValue) (event : Event) (said : List Packet �
                 none = refl;
                 still = record { says = refl; holds = refl; signed = refl };
                 event = record { result = result; does = asked; cause = cause; provider = refl; ends = d.ends };
-              })) (still_true beside.says beside.holds beside.signed);
+              })) (chips _ (none_called event d.answer [] w w' o o' refl c.imports)) (still_true beside.says beside.holds beside.signed);
           rows = told_more (λ before after. Does before after result)
               (λ (r r' : List Row). (s : State) → IsAt setup w o r s → GoesOn setup (item setup event d.answer w w' o o') w' o o' r r' s)
               rows rows' does (λ r r' one s there. goes_kept d.answer d.ends r r' one s there);
           parties = between_after setup (moment_at w o).parties (moment_at w' o').parties d.answer (said w.packets result) (sent result) was (between result) (All-nil (IsBetween setup)) d.ends;
+          acks = none_acked w w' c.acks;
         },
         d.told,
       )

@@ -1,5 +1,5 @@
 -- Every turn keeps rows lawful.
-use Rattle.std.proofs.Common.{◌≡◌, ◌⊎◌, inl, inr, ℕ, ◌+◌, List, [], ◌∷◌, ◌++◌, length, true≢false, Some, None, Ok, Err, refl, sym, ap, ◌∙◌, subst, arith, append-nil}
+use Rattle.std.proofs.Common.{◌≡◌, ◌⊎◌, inl, inr, ℕ, ◌+◌, List, [], ◌++◌, length, true≢false, Some, None, Ok, Err, refl, sym, ap, ◌∙◌, subst, arith, append-nil}
 use Rattle.std.specs.Prelude.{is_some}
 use Rattle.std.specs.declared.option.Option.{Option}
 use Rattle.std.specs.declared.result.Result.{Result}
@@ -12,13 +12,13 @@ use Rattle.keeper.specs.declared.rows.Table.TheVariants as table
 use Rattle.keeper.specs.Rows.{row_at}
 use Rattle.issue_core.specs.Issuing.Readings.{request_of, cert_of}
 use Rattle.issue_core.specs.Issuing.Rows.{AreReadable, row_for, left_row}
-use Rattle.holder_core.specs.Lawful.{AreNumbered, AreFounded}
+use Rattle.holder_core.specs.Lawful.{AreNumbered}
 use Rattle.holder_core.specs.LawfulCalls.{KeepsNumbers}
 use Rattle.holder_core.specs.Numbers.{reference_after}
 use Rattle.holder_core.specs.OwnRows.{own_rows, ca_rows}
 use Rattle.holder_core.specs.Requesting.{Requests, WritesRequest, authority_in, outer_signer, request_refused, request_late}
 use Rattle.holder_core.specs.Signers.{missing_of}
-use Rattle.holder_core.specs.WritesOnce.{HasWritten, WritesOnce}
+use Rattle.holder_core.specs.WritesOnce.{HasWritten}
 use Rattle.holder_core.specs.declared.fault.HolderFault.{HolderFault}
 use Rattle.holder_core.specs.declared.made.Made.{Made}
 use Rattle.holder_core.proofs.Lawfuls.{same_or_written, keeps_own, none_beyond, request_keeps}
@@ -210,6 +210,10 @@ module _ (setup : SetupValue) (m : Meanings) (s : State) (lawful : AreLawful set
   turn_lawful (events.Push desk party) answer t fits v = by_rows t _ v.next lawful
   turn_lawful (events.Send from to bytes) answer t fits v = by_rows t _ v.next lawful
   turn_lawful (events.Deliver number) answer t fits v = came_lawful number answer t v
+  turn_lawful (events.Make chip authority) answer t fits v = by_rows t _ v.next lawful
+  turn_lawful (events.Present chip terminal) answer t fits v = by_rows t _ v.next lawful
+  turn_lawful (events.Import chip bytes) answer t fits v = by_rows t _ v.next lawful
+  turn_lawful (events.Look chip) answer t fits v = by_rows t _ v.next lawful
 
 pub turns_keep_law : TurnsKeepLaw
 turns_keep_law setup s t i fits r = turn_lawful setup (means i.from i.to) s r.lawful i.event i.answer t fits r.turn

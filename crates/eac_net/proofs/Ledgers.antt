@@ -1,8 +1,8 @@
 -- Which rows the ledgers are made of: those of other tables and of other desks leave them alone.
-use Rattle.std.proofs.Common.{◌≡◌, ◌⊎◌, inl, inr, ℕ, List, [], ◌∷◌, ◌++◌, Option, Some, None, Bool, true, false, cond, refl, sym, ap, ◌∙◌, subst, append-nil, nat_eq}
-use Rattle.std.specs.Prelude.{◌&&◌, ◌≢◌, Result, Ok, Err, IfSome, option_map}
+use Rattle.std.proofs.Common.{◌≡◌, ℕ, List, [], ◌∷◌, ◌++◌, Option, Some, None, Bool, true, false, cond, refl, ap, ◌∙◌, append-nil, nat_eq}
+use Rattle.std.specs.Prelude.{◌&&◌, Result, Ok, Err, IfSome, option_map}
 use Rattle.std.specs.Str.{bytes_eq}
-use Rattle.std.proofs.lemmas.Bool.{eq-eqb, ne_eqb}
+use Rattle.std.proofs.lemmas.Bool.{eq-eqb}
 use Rattle.cvc_grammar.specs.declared.request.Request.{Request}
 use Rattle.cvc_grammar.specs.declared.certificate.Cert.{Cert}
 use Rattle.cvc_grammar.specs.declared.certificate.CertBody.{CertBody}
@@ -15,7 +15,7 @@ use Rattle.keeper.specs.declared.rows.CaPart.{CaPart}
 use Rattle.keeper.specs.declared.rows.Part.{Part}
 use Rattle.keeper.specs.declared.rows.Part.TheVariants as part
 use Rattle.keeper.specs.declared.rows.Table.TheVariants as table
-use Rattle.keeper.specs.Rows.{is_of, rows_of, with_settled, settled_rows}
+use Rattle.keeper.specs.Rows.{rows_of, with_settled, settled_rows}
 use Rattle.ledger.specs.Ledger.{Outcome, left_entry}
 use Rattle.ledger.specs.Story.{Adds}
 use Rattle.issue_core.specs.declared.rule.Rule.{Rule}

@@ -8,6 +8,10 @@ pub mod Calendar
 pub mod Grows
 pub mod Beside
 pub mod Registerings
+pub mod Newest
+pub mod ChipSlices
+pub mod Happenings
+pub mod ChipItems
 pub mod Stepped
 pub mod Looping
 pub mod Writings
@@ -25,6 +29,12 @@ pub mod Naming
 pub mod Homes
 pub mod Applyings
 pub mod TrueVerdicts
+pub mod EachItem
+pub mod ChipCauses
+pub mod ChipCases
+pub mod OwnAcks
+pub mod ChipActs
+pub mod ChipRuns
 pub mod Causes
 pub mod Pieces
 pub mod Ledgers
@@ -49,3 +59,6 @@ pub mod Deliverings
 pub mod Listing
 pub mod Servings
 pub mod Served
+pub mod GrantsAsked
+pub mod Grants
+pub mod GrantsOfGoodChains

@@ -29,7 +29,7 @@ use Rattle.eac_net.specs.declared.packet.Packet.{Packet}
 use Rattle.eac_net.specs.declared.world.World.{World}
 use Rattle.eac_net.proofs.Arrivals.{IsThat, says_that, turns_that, served_between}
 use Rattle.eac_net.proofs.Concluded.{concluded, between_after, same_day}
-use Rattle.eac_net.proofs.Going.{KeepsRows, answers_to, moved_standing, goes_by, keeps_same, still_true, item}
+use Rattle.eac_net.proofs.Going.{KeepsRows, answers_to, moved_standing, goes_by, keeps_same, still_true, item, none_called, none_acked}
 use Rattle.eac_net.proofs.Stays.{unsigned_traced}
 
 module _ (setup : SetupValue) (number : ℕ) (w w' : World) (beside : Outside) (rows rows' : Option (List Row)) (before now : ℕ) (p : Packet) (id : List ℕ)
@@ -88,10 +88,11 @@ module _ (setup : SetupValue) (number : ℕ) (w w' : World) (beside : Outside) (
                 none = refl;
                 still = record { says = refl; holds = refl; signed = refl };
                 event = record { result = listed; does = asked; cause = cause; provider = refl; ends = d.ends };
-              })) (still_true beside.says beside.holds beside.signed);
+              })) (none_called (events.Deliver number) d.answer [] w w' o o' refl c.imports) (still_true beside.says beside.holds beside.signed);
           rows = told_more Lists (λ (r r' : List Row). (s : State) → IsAt setup w o r s → GoesOn setup (item setup (events.Deliver number) d.answer w w' o o') w' o o' r r' s)
               rows rows' does (λ r r' one s there. list_goes d.answer d.ends r r' one s there);
           parties = between_after setup first last d.answer said sent were (served_between setup p (list_served id listed) between) (All-nil (IsBetween setup)) d.ends;
+          acks = none_acked w w' c.acks;
         },
         d.told,
       )

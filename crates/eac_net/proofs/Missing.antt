@@ -45,12 +45,13 @@ use Rattle.cvca_desk.specs.Linking.{link_signer}
 use Rattle.eac_net.specs.Acting.{home_of, home_for, home_reference, applied_as}
 use Rattle.eac_net.specs.Answers.{answer_by, outcome_answer}
 use Rattle.eac_net.specs.Arrival.{Arrival, NotSent, NoCall, AsksCertificate, AsksList, Brings, IsDeclined, NoReply, BringsBack, Notes, arrival}
+use Rattle.eac_net.specs.ChipSays.{ChipSays}
 use Rattle.eac_net.specs.Delivered.{served_answer}
 use Rattle.eac_net.specs.Delivering.{case_at, Arrives, DeliverTurn}
+use Rattle.eac_net.specs.Items.{Ran}
 use Rattle.eac_net.specs.Laws.{IsToldAs, ReceiptFails, FailsWith, HasFault, NoKeyIsMissing}
 use Rattle.eac_net.specs.Moment.{Meanings, AllHeld, means}
 use Rattle.eac_net.specs.Packets.{next_number, packet_at}
-use Rattle.eac_net.specs.Parties.{own_named}
 use Rattle.eac_net.specs.State.{State}
 use Rattle.eac_net.specs.Turn.{Turn}
 use Rattle.eac_net.specs.declared.answer.Answer.{Answer}
@@ -60,6 +61,7 @@ use Rattle.eac_net.specs.declared.event.Event.{Event}
 use Rattle.eac_net.specs.declared.event.Event.TheVariants as events
 use Rattle.eac_net.specs.declared.packet.Packet.{Packet}
 use Rattle.eac_net.proofs.Causes.{told_of, received_told, took_told}
+use Rattle.eac_net.proofs.ChipCauses.{chip_no_key}
 use Rattle.eac_net.proofs.Finding.{none_some, SignsFor, IsSigner, signer_of, own_row_of, link_signs, asked_signs}
 
 -- ---- whoever signs has a key that is held
@@ -287,30 +289,34 @@ module _ (setup : SetupValue) (m : Meanings) (s : State) (keys : AllHeld m.held 
   delivered_holds number answer t (inl nothing) h = absurd (subst (HasFault (faults.Key reference)) nothing.0 h)
   delivered_holds number answer t (inr v) h = arrives_holds (packet_at s.packets number) (arrival setup (packet_at s.packets number)) answer t v h
 
-  turn_holds : (e : Event) (answer : Option Answer) (t : State) → Turn setup m s e answer t → HasFault (faults.Key reference) answer → ⊥
-  turn_holds (events.Day day) answer t v h = absurd (subst (HasFault (faults.Key reference)) v.0 h)
-  turn_holds (events.Ask named bytes) answer t v h = registered_key named reference v.outcome (subst (HasFault (faults.Key reference)) v.told h)
-  turn_holds (events.Found authority) answer t v h =
+  turn_holds : (e : Event) (i : Ran) (t : State) → ChipSays e i → Turn setup m s e i.answer t → HasFault (faults.Key reference) i.answer → ⊥
+  turn_holds (events.Day day) i t c v h = absurd (subst (HasFault (faults.Key reference)) v.0 h)
+  turn_holds (events.Ask named bytes) i t c v h = registered_key named reference v.outcome (subst (HasFault (faults.Key reference)) v.told h)
+  turn_holds (events.Found authority) i t c v h =
       let a = v.event.event in
       key_told answers.Founded (λ a r k. k) a.result (cause_never NoneMissing _ _ a.result a.cause (λ r miss. miss)) reference
-      (told_of _ _ answer _ _ (faults.Key reference) a.ends h)
-  turn_holds (events.Link authority) answer t v h =
+      (told_of _ _ i.answer _ _ (faults.Key reference) a.ends h)
+  turn_holds (events.Link authority) i t c v h =
       let a = v.event.event in
       key_told answers.Linked (λ a r k. k) a.result (written_never _ _ _ _ s.rows v.rows a.result (link_missing authority) a.does.0.rows) reference
-      (told_of _ _ answer _ _ (faults.Key reference) a.ends h)
-  turn_holds (events.Trust party authority) answer t v h =
+      (told_of _ _ i.answer _ _ (faults.Key reference) a.ends h)
+  turn_holds (events.Trust party authority) i t c v h =
       key_told answers.Trusted (λ a r k. k) v.event.result (keeper_never _ _ v.event.result v.event.cause) reference
-      (told_of _ _ answer _ _ (faults.Key reference) v.event.ends h)
-  turn_holds (events.Apply holder authority root) answer t v h =
+      (told_of _ _ i.answer _ _ (faults.Key reference) v.event.ends h)
+  turn_holds (events.Apply holder authority root) i t c v h =
       key_told (λ a. answers.Applied (applied_as (next_number s.packets) a)) (λ a r k. k) v.event.result
       (written_never _ _ _ _ s.rows v.rows v.event.result (apply_missing holder authority _) v.event.does) reference
-      (told_of _ _ answer _ _ (faults.Key reference) v.event.ends h)
-  turn_holds (events.Fetch party desk) answer t v h = absurd (told_of _ _ answer _ _ (faults.Key reference) v.event.ends h)
-  turn_holds (events.Push desk party) answer t v h =
+      (told_of _ _ i.answer _ _ (faults.Key reference) v.event.ends h)
+  turn_holds (events.Fetch party desk) i t c v h = absurd (told_of _ _ i.answer _ _ (faults.Key reference) v.event.ends h)
+  turn_holds (events.Push desk party) i t c v h =
       key_told (λ (list : List (List ℕ)). answers.Sent (next_number s.packets)) (λ a r k. k) v.event.result (keeper_never _ _ v.event.result v.event.cause) reference
-      (told_of _ _ answer _ _ (faults.Key reference) v.event.ends h)
-  turn_holds (events.Send from to bytes) answer t v h = absurd (told_of _ _ answer _ _ (faults.Key reference) v.event.ends h)
-  turn_holds (events.Deliver number) answer t v h = delivered_holds number answer t v h
+      (told_of _ _ i.answer _ _ (faults.Key reference) v.event.ends h)
+  turn_holds (events.Send from to bytes) i t c v h = absurd (told_of _ _ i.answer _ _ (faults.Key reference) v.event.ends h)
+  turn_holds (events.Deliver number) i t c v h = delivered_holds number i.answer t v h
+  turn_holds (events.Make chip authority) i t c v h = chip_no_key chip i reference c h
+  turn_holds (events.Present chip terminal) i t c v h = chip_no_key chip i reference c h
+  turn_holds (events.Import chip bytes) i t c v h = chip_no_key chip i reference c h
+  turn_holds (events.Look chip) i t c v h = chip_no_key chip i reference c h
 
 pub no_key_is_missing : NoKeyIsMissing
-no_key_is_missing setup s t i reference r h = turn_holds setup (means i.from i.to) s r.keys reference i.event i.answer t r.turn h
+no_key_is_missing setup s t i reference a r h = turn_holds setup (means i.from i.to) s r.keys reference i.event i t a.chips r.turn h

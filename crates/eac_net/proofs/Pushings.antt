@@ -1,5 +1,5 @@
 -- A desk sends its list by itself.
-use Rattle.std.proofs.Common.{◌≡◌, ℕ, List, [], ◌∷◌, Ok, Err, refl, sym, ap, ◌∙◌, subst}
+use Rattle.std.proofs.Common.{◌≡◌, ℕ, List, [], Ok, Err, sym, ap, ◌∙◌, subst}
 use Rattle.std.specs.Prelude.{IfOk}
 use Rattle.std.specs.declared.option.Option.{Option}
 use Rattle.std.specs.declared.result.Result.{Result}
@@ -61,5 +61,5 @@ module _ (setup : SetupValue) (desk party : ℕ) where
       AreBetween setup w.packets → HasStepped setup (events.Push desk party) r (w, line) (w', line') (record beside { rows = rows; keeper_faults = before }) (record beside { rows = rows'; keeper_faults = now })
   push_steps fits w w' beside rows rows' before now result happened r line line' cause c t told asked was =
       kept_steps setup (events.Push desk party) said (list_sent desk party) ListsDue (λ result. IfOk result (ListAsked setup desk))
-      (λ m s s' answer h. h) (λ m s s' answer h. pushes_only s s' answer h) lists_keep (list_between fits)
+      (λ m s s' answer h. h) (λ m s s' answer h. pushes_only s s' answer h) lists_keep (list_between fits) (λ i x. x)
       w w' beside rows rows' before now result cause happened r line line' c t told asked was

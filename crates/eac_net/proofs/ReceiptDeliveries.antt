@@ -33,7 +33,7 @@ use Rattle.eac_net.proofs.Arrivals.{IsThat, says_that, turns_that}
 use Rattle.eac_net.proofs.AskedItems.{asked_item, goes_asked, verdicts_said}
 use Rattle.eac_net.proofs.AskedReceipts.{received_about, verdicts_about}
 use Rattle.eac_net.proofs.Concluded.{concluded, between_after, same_day}
-use Rattle.eac_net.proofs.Going.{KeepsRows, moved_standing, still_true}
+use Rattle.eac_net.proofs.Going.{KeepsRows, moved_standing, still_true, none_called, none_acked}
 use Rattle.eac_net.proofs.ReceivedRows.{received_keeps}
 use Rattle.eac_net.proofs.Stays.{unsigned_traced}
 
@@ -114,11 +114,13 @@ module _ (setup : SetupValue) (number : ℕ) (w w' : World) (beside : Outside) (
                   event = record { received = received; does = answered; cause = cause; ends = d.ends };
                   asked_are = verdicts_about beside.says certificates asked (questions_about beside.says party certificates received rows rows' told);
                 }));
+            chips = none_called (events.Deliver number) d.answer (verdicts_on beside.says asked) w w' o o' refl c.imports;
             asked = verdicts_said beside.says asked;
             provider = still_true beside.says beside.holds beside.signed;
           };
           rows = receipt_rows d.answer d.ends rows rows' refl told unique;
           parties = between_after setup first last d.answer (said w.packets received) (sent received) were between (All-nil (IsBetween setup)) d.ends;
+          acks = none_acked w w' c.acks;
         },
         d.told,
       )

@@ -30,7 +30,7 @@ use Rattle.eac_net.specs.declared.event.Event.TheVariants as events
 use Rattle.eac_net.specs.declared.world.World.{World}
 use Rattle.eac_net.proofs.Beside.{keeps_registered}
 use Rattle.eac_net.proofs.Concluded.{IsConcluded, concluded}
-use Rattle.eac_net.proofs.Going.{KeepsRows, answers_to, goes_by, still_true, item}
+use Rattle.eac_net.proofs.Going.{KeepsRows, answers_to, goes_by, still_true, item, none_called, none_acked}
 use Rattle.eac_net.proofs.Stays.{unsigned_traced}
 
 -- ---- what is known of the outcome
@@ -60,7 +60,7 @@ counts before now (Err FaultNoMemory) h = h.later
 -- ---- one asking, with this outcome
 
 module _ (setup : SetupValue) (w w' : World) (beside : Outside) (rows rows' : Option (List Row)) (before now : ℕ) (reference bytes : List ℕ) (day : ℕ)
-    (today : w.day ≡ Some day) (same_day : w'.day ≡ w.day) (same_packets : w'.packets ≡ w.packets) where
+    (today : w.day ≡ Some day) (same_day : w'.day ≡ w.day) (same_packets : w'.packets ≡ w.packets) (same_imports : w'.imports ≡ w.imports) (same_acks : w'.acks ≡ w.acks) where
   abbrev o : Outside
   o = record beside { rows = rows; keeper_faults = before }
 
@@ -124,11 +124,12 @@ module _ (setup : SetupValue) (w w' : World) (beside : Outside) (rows rows' : Op
               comes = subst (λ (x : Option ℕ). MayCome x reference bytes outcome) (sym today) comes;
               next = λ j. record { day = same_day j; keeper = now; provider = beside.provider_faults; packets = same_packets j };
             };
-          }) (still_true beside.says beside.holds beside.signed);
+          }) (none_called (events.Ask reference bytes) answer [] w w' o o' refl same_imports) (still_true beside.says beside.holds beside.signed);
       rows = told_more (λ r r'. RegisterServes r r' asked (before, now) outcome)
           (λ (r r' : List Row). (s : State) → IsAt setup w o r s → GoesOn setup (item setup (events.Ask reference bytes) answer w w' o o') w' o o' r r' s)
           rows rows' serves (λ r r' one s there. goes_asked r r' one s there);
       parties = subst (AreBetween setup) (sym same_packets) was;
+      acks = none_acked w w' same_acks;
     }
 
 -- ---- the asking, as it was concluded
@@ -150,7 +151,7 @@ module _ (setup : SetupValue) (w w' : World) (beside : Outside) (rows rows' : Op
           Told rows rows' (λ r r'. RegisterServes r r' (asked_on day reference bytes) (before, now) outcome) → Counts before now outcome → MayCome (Some day) reference bytes outcome →
           Steps setup (item setup (events.Ask reference bytes) answer w w' (record beside { rows = rows; keeper_faults = before }) (record beside { rows = rows'; keeper_faults = now })) w w' (record beside { rows = rows; keeper_faults = before }) (record beside { rows = rows'; keeper_faults = now })
       stepped answer outcome told day_is packets_are serves count comes =
-          asked_steps setup w w' beside rows rows' before now reference bytes day today day_is (packets_are ∙ append-nil w.packets) answer outcome told cause.later serves count comes was
+          asked_steps setup w w' beside rows rows' before now reference bytes day today day_is (packets_are ∙ append-nil w.packets) c.imports c.acks answer outcome told cause.later serves count comes was
 
       go : IsConcluded {F = F} (record { day = w.day; keeper = before; provider = beside.provider_faults; packets = w.packets }) (record { day = w'.day; keeper = now; provider = beside.provider_faults; packets = w'.packets })
           (outcome_answer reference (register_outcome result)) [] r line line' →

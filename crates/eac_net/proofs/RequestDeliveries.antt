@@ -1,4 +1,5 @@
 -- A request comes to an issuing desk.
+use Rattle.chip_events.specs.DiskTurns.{DiskKnown}
 use Rattle.std.proofs.Common.{◌≡◌, ℕ, List, [], ◌++◌, true≢false, Some, None, Ok, Err, inl, inr, refl, sym, ap, ◌∙◌, subst, append-nil}
 use Rattle.std.specs.Prelude.{IfSome, IsSome}
 use Rattle.std.specs.declared.option.Option.{Option}
@@ -41,7 +42,7 @@ use Rattle.eac_net.specs.declared.world.World.{World}
 use Rattle.eac_net.proofs.Arrivals.{IsThat, says_that, turns_that, outside_of, served_between, told_known, told_both, law_of}
 use Rattle.eac_net.proofs.AskedItems.{asked_item, goes_asked, verdicts_said}
 use Rattle.eac_net.proofs.Concluded.{concluded, between_after, same_day}
-use Rattle.eac_net.proofs.Going.{KeepsRows, moved_standing}
+use Rattle.eac_net.proofs.Going.{KeepsRows, moved_standing, none_called, none_acked}
 use Rattle.eac_net.proofs.IssuedLosses.{IssueLoss, issue_loss}
 use Rattle.eac_net.proofs.IssuedRows.{issued_keeps}
 use Rattle.eac_net.proofs.OwnSignings.{all_of}
@@ -68,13 +69,13 @@ abbrev rows_or : Option (List Row) → List Row
 rows_or (Some rows) = rows
 rows_or None = []
 
-module _ (setup : SetupValue) (number : ℕ) (w w' : World) (was now : Around) (p : Packet) (id request : List ℕ) (that : IsThat setup number w.packets (Some p) (AsksCertificate id request))
+module _ (setup : SetupValue) (number : ℕ) (w w' : World) (disks : ℕ → DiskKnown) (was now : Around) (p : Packet) (id request : List ℕ) (that : IsThat setup number w.packets (Some p) (AsksCertificate id request))
     (day : ℕ) (today : w.day ≡ Some day) (result : Result Served NoMemory) (served : RequestServed setup p.to day id request was now result) where
   abbrev o : Outside
-  o = outside_of was
+  o = outside_of disks was
 
   abbrev o' : Outside
-  o' = outside_of now
+  o' = outside_of disks now
 
   abbrev first : Standing
   first = (moment_at w o).parties
@@ -178,6 +179,7 @@ module _ (setup : SetupValue) (number : ℕ) (w w' : World) (was now : Around) (
               rows = rows_or o.rows;
               asked_are = refl;
             });
+            chips = none_called (events.Deliver number) d.answer asked w w' o o' refl c.imports;
             asked = verdicts_said o.says (request_questions setup p.to day request (rows_or o.rows));
             provider = served.provider;
           };
@@ -185,6 +187,7 @@ module _ (setup : SetupValue) (number : ℕ) (w w' : World) (was now : Around) (
               o.rows o'.rows (told_both _ _ o.rows o'.rows served.delivery served.signed)
               (λ x x' known both s there. request_goes d.answer d.ends x x' known (law_of UniqueKeys o.rows x known unique) (both.0 there.lawful.readable) (both.1 there.lawful.readable) s there);
           parties = between_after setup first last d.answer said sent were (served_between setup p (request_served id request served.issued) between) (All-nil (IsBetween setup)) d.ends;
+          acks = none_acked w w' c.acks;
         },
         d.told,
       )

@@ -1,5 +1,5 @@
 -- A request that comes to an issuing desk is answered where no count rises.
-use Rattle.std.proofs.Common.{◌≡◌, ◌⊎◌, inl, inr, ℕ, List, [], ◌∷◌, ◌++◌, Bool, true, false, cond, true≢false, Some, None, Ok, Err, refl, sym, ap, ◌∙◌, subst}
+use Rattle.std.proofs.Common.{◌≡◌, inl, inr, ℕ, List, [], ◌∷◌, ◌++◌, Bool, true, false, cond, true≢false, Some, None, Ok, Err, refl, sym, ap, ◌∙◌, subst}
 use Rattle.std.specs.Prelude.{IfSome, IsSome, option_map, is_some}
 use Rattle.std.specs.declared.option.Option.{Option}
 use Rattle.std.specs.declared.result.Result.{Result}
@@ -26,7 +26,7 @@ use Rattle.desk_core.specs.Replies.{given, refused, request_served}
 use Rattle.desk_core.specs.declared.served.Event1.TheVariants as served
 use Rattle.desk_core.specs.declared.served.Served.{Served}
 use Rattle.eac_net.specs.Arrival.{Arrival, AsksCertificate, arrival}
-use Rattle.eac_net.specs.Completeness.{DeliversRequest, NoneRose, IsReplied, IsIssued, AnswersBy, IsServed, RequestsAreServed}
+use Rattle.eac_net.specs.Completeness.{NoneRose, IsReplied, IsIssued, AnswersBy, IsServed, RequestsAreServed}
 use Rattle.eac_net.specs.Delivered.{served_answer, served_sent}
 use Rattle.eac_net.specs.Delivering.{case_at, EndsServed, RequestTurn, Arrives, DeliverTurn}
 use Rattle.eac_net.specs.Items.{Ran}
@@ -38,7 +38,6 @@ use Rattle.eac_net.specs.Turn.{Turn, RowsStep}
 use Rattle.eac_net.specs.declared.answer.Answer.{Answer}
 use Rattle.eac_net.specs.declared.answer.Fault.{Fault}
 use Rattle.eac_net.specs.declared.event.Event.{Event}
-use Rattle.eac_net.specs.declared.event.Event.TheVariants as events
 use Rattle.eac_net.specs.declared.packet.Packet.{Packet}
 use Rattle.eac_net.proofs.Finding.{none_some}
 use Rattle.eac_net.proofs.Ledgers.{desk_grows}

@@ -1,4 +1,6 @@
 -- An event of an authority that may sign a certificate of its own.
+use Rattle.eac_net.specs.Items.{Ran}
+use Rattle.eac_net.specs.ChipSays.{OfNone, ChipSays}
 use Rattle.std.proofs.Common.{◌≡◌, ℕ, List, [], ◌++◌, true≢false, Some, Ok, Err, inl, inr, refl, sym, ap, ◌∙◌, subst, append-nil}
 use Rattle.std.specs.Prelude.{IfSome, IsSome}
 use Rattle.std.specs.declared.option.Option.{Option}
@@ -36,7 +38,7 @@ use Rattle.eac_net.specs.declared.event.Event.{Event}
 use Rattle.eac_net.specs.declared.packet.Packet.{Packet}
 use Rattle.eac_net.specs.declared.world.World.{World}
 use Rattle.eac_net.proofs.Concluded.{concluded, between_after, same_day}
-use Rattle.eac_net.proofs.Going.{KeepsRows, answers_to, moved_standing, goes_by, item}
+use Rattle.eac_net.proofs.Going.{KeepsRows, answers_to, moved_standing, goes_by, item, none_called, none_acked}
 use Rattle.eac_net.proofs.OwnSignings.{all_of}
 
 -- what a party's call says of its provider
@@ -77,7 +79,7 @@ module _ {A : Type 0} (setup : SetupValue) (event : Event) (authority : ℕ) (an
       (turn : (m : Meanings) (s s' : State) (answer : Option Answer) →
       Signs s (λ rows now losing. ByTerms setup authority (standing_of s) (λ day t. Acts (standing_of s) answer now (answer_by answered) no_packet
       (λ result. Does m day t s.rows rows result × Loses (IsDue m day t s.rows) (fate_of result) losing) (Missing m day t))) s' → Turn setup m s event answer s')
-      (w w' : World) (o o' : Outside) (day : ℕ) (today : w.day ≡ Some day) (t : Terms) (terms_are : setups.terms setup authority ≡ Some t) (result : Result A HolderFault)
+      (chips : (i : Ran) → OfNone i → ChipSays event i) (w w' : World) (o o' : Outside) (same_disks : o'.disks ≡ o.disks) (day : ℕ) (today : w.day ≡ Some day) (t : Terms) (terms_are : setups.terms setup authority ≡ Some t) (result : Result A HolderFault)
       (cause : HolderCause (Missing (means (moment_at w o) (moment_at w' o')) day t) (o.keeper_faults, o'.keeper_faults) (o.provider_faults, o'.provider_faults) result)
       (provider : StaysTrue o.says o'.says o.holds o'.holds o.signed o'.signed) where
     by_terms : (answer : Option Answer) (D : ℕ → Terms → Result A HolderFault → Type 0) → D day t result → Ends (moment_at w o).parties answer (moment_at w' o').parties (answer_by answered result) [] →
@@ -116,11 +118,12 @@ module _ {A : Type 0} (setup : SetupValue) (event : Event) (authority : ℕ) (an
                 (say (means (moment_at w o) (moment_at w' o')) (moment_at w o).parties (moment_at w' o').parties d.answer (record {
                   none = refl;
                   event = by_terms d.answer (Asked (means (moment_at w o) (moment_at w' o'))) asked d.ends;
-                })) provider;
+                })) (chips _ (none_called event d.answer [] w w' o o' same_disks c.imports)) provider;
             rows = told_more (λ before after. AreLawful setup before → Called (means (moment_at w o) (moment_at w' o')) day t before after result)
                 (λ (x x' : List Row). (s : State) → IsAt setup w o x s → GoesOn setup (item setup event d.answer w w' o o') w' o o' x x' s)
                 o.rows o'.rows told (λ x x' one s there. goes_signed d.answer d.ends x x' (one there.lawful) s there);
             parties = between_after setup (moment_at w o).parties (moment_at w' o').parties d.answer (answer_by answered result) [] was (All-nil (IsBetween setup)) (All-nil (IsBetween setup)) d.ends;
+            acks = none_acked w w' c.acks;
           },
           d.told,
         )

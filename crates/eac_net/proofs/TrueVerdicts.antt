@@ -18,16 +18,16 @@ not_both b e f = absurd (cc)
 
 -- ---- growth
 
-says_then : (a b c : Says) → SaysMore a b → SaysMore b c → SaysMore a c
+pub says_then : (a b c : Says) → SaysMore a b → SaysMore b c → SaysMore a c
 says_then a b c f g = λ key message signature h. g key message signature (f key message signature h)
 
-step_says : (setup : SetupValue) (k k' : Moment) (i : Ran) → RanStep setup k i k' → SaysMore k.says k'.says
+pub step_says : (setup : SetupValue) (k k' : Moment) (i : Ran) → RanStep setup k i k' → SaysMore k.says k'.says
 step_says setup k k' i s = subst (λ (x : Moment × Moment). SaysMore x.0.says x.1.says) (λ j. (s.from j, s.to j)) s.answers.provider.says_more
 
 step_holds : (setup : SetupValue) (k k' : Moment) (i : Ran) → RanStep setup k i k' → HoldsMore k.holds k'.holds
 step_holds setup k k' i s = subst (λ (x : Moment × Moment). HoldsMore x.0.holds x.1.holds) (λ j. (s.from j, s.to j)) s.answers.provider.holds_more
 
-says_grow : (setup : SetupValue) (k k' : Moment) (items : List Ran) → AreRan setup k items k' → SaysMore k.says k'.says
+pub says_grow : (setup : SetupValue) (k k' : Moment) (items : List Ran) → AreRan setup k items k' → SaysMore k.says k'.says
 says_grow setup k k' [] r = subst (λ (x : Moment). SaysMore k.says x.says) (sym r) (λ key message signature h. h)
 says_grow setup k k' (i ∷ items) r = says_then k.says r.0.says k'.says (step_says setup k r.0 i r.1) (says_grow setup r.0 k' items r.2)
 

@@ -238,5 +238,5 @@ pub trust_steps : {E F : Type 0} (setup : SetupValue) (party authority : ℕ) (w
     AreBetween setup w.packets → HasStepped setup (events.Trust party authority) r (w, line) (w', line') (record beside { rows = rows; keeper_faults = before }) (record beside { rows = rows'; keeper_faults = now })
 trust_steps setup party authority w w' beside rows rows' before now result happened r line line' cause c t told asked was =
     kept_steps setup (events.Trust party authority) (λ packets. answer_by answers.Trusted) no_packet (TrustsFounding setup party authority) (λ result. IfOk result (TrustAsked setup party authority))
-    (λ m s s' answer h. h) (λ m s s' answer h. h) (trusting_keeps setup party authority) (λ result. All-nil (IsBetween setup))
+    (λ m s s' answer h. h) (λ m s s' answer h. h) (trusting_keeps setup party authority) (λ result. All-nil (IsBetween setup)) (λ i x. x)
     w w' beside rows rows' before now result cause happened r line line' c t told asked was

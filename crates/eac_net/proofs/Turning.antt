@@ -51,7 +51,7 @@ use Rattle.eac_net.specs.Packets.{packet_at}
 use Rattle.eac_net.specs.Run.{asked_at, asks_of, cases}
 use Rattle.eac_net.specs.State.{State, Standing, moved}
 use Rattle.eac_net.specs.Steps.{later_day}
-use Rattle.eac_net.specs.Turn.{Turn}
+use Rattle.eac_net.specs.Turn.{ChipRests, Turn}
 use Rattle.eac_net.specs.declared.answer.Answer.{Answer}
 use Rattle.eac_net.specs.declared.answer.Trusted.{Trusted}
 use Rattle.eac_net.specs.declared.answer.Trusted.TheVariants as trusted
@@ -111,6 +111,16 @@ moved_quiet s now rows t next same later = record {
 -- no row changed
 kept_quiet : (s : State) (now : Standing) (t : State) → t ≡ moved s now s.rows → s.keeper ≤ now.keeper → IsQuiet s t
 kept_quiet s now t next later = moved_quiet s now s.rows t next (same_ledgers s.rows s.rows refl) later
+
+-- an event of a chip
+rested_quiet : (s t : State) → ChipRests s t → IsQuiet s t
+rested_quiet s t v = record {
+  register = ap (λ (x : State). x.register) v.next;
+  desks = ap (λ (x : State). x.desks) v.next;
+  ledgers = same_ledgers s.rows t.rows (ap (λ (x : State). x.rows) v.next);
+  later = v.later;
+  lost = inl (ap (λ (x : State). x.lost) v.next);
+}
 
 -- and these pairs have no row
 signed_quiet : (s : State) (now : Standing) (rows : List Row) (l : Losing) (t : State) → t ≡ record (moved s now rows) { lost = s.lost ++ l.lost; dropped = s.dropped ++ l.dropped } →
@@ -339,3 +349,7 @@ module _ (setup : SetupValue) (m : Meanings) (s : State) where
       quiet_tells m s (events.Send from to bytes) t (ap (λ (x : State). x.day) v.next) refl
       (kept_quiet s v.now t v.next (no_earlier s.keeper v.now.keeper v.event.keeper))
   turn_tells (events.Deliver number) answer t v = delivered_tells setup m s number answer t v
+  turn_tells (events.Make chip authority) answer t v = quiet_tells m s (events.Make chip authority) t (ap (λ (x : State). x.day) v.next) refl (rested_quiet s t v)
+  turn_tells (events.Present chip terminal) answer t v = quiet_tells m s (events.Present chip terminal) t (ap (λ (x : State). x.day) v.next) refl (rested_quiet s t v)
+  turn_tells (events.Import chip bytes) answer t v = quiet_tells m s (events.Import chip bytes) t (ap (λ (x : State). x.day) v.next) refl (rested_quiet s t v)
+  turn_tells (events.Look chip) answer t v = quiet_tells m s (events.Look chip) t (ap (λ (x : State). x.day) v.next) refl (rested_quiet s t v)

@@ -52,4 +52,6 @@ ConcludesBy happened (Err e) was now = (now.0 ≡ was.0) × (now.1 ≡ was.1)
 pub record Concludes {E F : Type 0} (happened : Result Happened E) (r : Result (Unit {0}) F) (w w' : World)
     (line line' : List ℕ) : Type 0 where
   pub day : w'.day ≡ w.day
+  pub imports : w'.imports ≡ w.imports
+  pub acks : w'.acks ≡ w.acks
   pub ends : ConcludesBy happened r (w.packets, line) (w'.packets, line')

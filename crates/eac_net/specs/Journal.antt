@@ -9,6 +9,7 @@ use Rattle.cvca_desk.specs.declared.founding.Founded.TheVariants as founded
 use Rattle.cvca_desk.specs.declared.linking.Linked.{Linked}
 use Rattle.cvca_desk.specs.declared.linking.Linked.TheVariants as linked
 use Rattle.eac_net.specs.Delivered.{called_text, replied_text}
+use Rattle.eac_net.specs.Inspected.{made_text, presented_text, imported_text, looked_text}
 use Rattle.eac_net.specs.declared.answer.Answer.{Answer}
 use Rattle.eac_net.specs.declared.answer.Answer.TheVariants as answers
 use Rattle.eac_net.specs.declared.answer.Fault.{Fault}
@@ -21,6 +22,7 @@ use Rattle.eac_net.specs.declared.answer.Applied.TheVariants as applied
 abbrev pub fault_text : Fault → List ℕ
 fault_text faults.Keeper = codes "fault keeper"
 fault_text faults.Provider = codes "fault provider"
+fault_text faults.Disk = codes "fault disk"
 fault_text (faults.Key reference) = codes "fault key " ++ reference
 
 -- ---- the register
@@ -72,6 +74,10 @@ answer_text (answers.Failed f) = fault_text f
 answer_text (answers.Called event reply) = called_text event reply
 answer_text (answers.Replied came) = replied_text came
 answer_text answers.Unsent = codes "unsent"
+answer_text (answers.Made answer) = made_text answer
+answer_text (answers.Presented answer) = presented_text answer
+answer_text (answers.Imported answer) = imported_text answer
+answer_text (answers.Looked answer) = looked_text answer
 
 -- the number of the script's line, a colon and a space, the answer, and a line feed
 abbrev pub numbered_line : ℕ → List ℕ → List ℕ
@@ -89,6 +95,10 @@ answered_line number (answers.Failed f) = numbered_line number (fault_text f)
 answered_line number (answers.Called event reply) = numbered_line number (called_text event reply)
 answered_line number (answers.Replied came) = numbered_line number (replied_text came)
 answered_line number answers.Unsent = numbered_line number (codes "unsent")
+answered_line number (answers.Made answer) = numbered_line number (made_text answer)
+answered_line number (answers.Presented answer) = numbered_line number (presented_text answer)
+answered_line number (answers.Imported answer) = numbered_line number (imported_text answer)
+answered_line number (answers.Looked answer) = numbered_line number (looked_text answer)
 
 -- `day` lines and want of memory have no line
 abbrev pub line_text : ℕ → Option Answer → List ℕ

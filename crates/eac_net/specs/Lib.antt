@@ -1,5 +1,9 @@
+pub mod Counts
+pub mod Chips
+pub mod Handed
 pub mod Parties
 pub mod Packets
+pub mod Inspected
 pub mod Journal
 pub mod Answers
 pub mod Verdicts
@@ -23,10 +27,16 @@ pub mod Serving
 pub mod Goes
 pub mod Items
 pub mod Turn
+pub mod ChipTurn
+pub mod ChipSays
 pub mod Untold
 pub mod Objects
 pub mod Steps
+pub mod ChipCalls
+pub mod ChipSteps
+pub mod ChipHistory
 pub mod SoFar
 pub mod Run
 pub mod Laws
 pub mod Completeness
+pub mod Grants

@@ -1,14 +1,18 @@
 -- What is known between two events, and what a provider means about one (this project's own).
-use Rattle.std.specs.Prelude.{◌≡◌, List, true, IfSome}
+use Rattle.std.specs.Prelude.{◌≡◌, ℕ, List, true, IfSome}
 use Rattle.std.specs.List.{All}
 use Rattle.signature_provider.specs.Provider.{Says, Holds, Signed, public_key}
 use Rattle.keeper.specs.declared.rows.Row.{Row}
+use Rattle.chip_events.specs.DiskTurns.{DiskKnown}
 use Rattle.holder_core.specs.OwnRows.{own_part}
 use Rattle.eac_net.specs.State.{Standing}
 
--- Day, packets and counts, and what the provider says, holds and has signed.
+-- Day, packets and counts, each chip's disk by its counts with how many imports were made on the chip, and what the provider
+-- says, holds and has signed.
 pub record Moment : Type 0 where
   pub parties : Standing
+  pub disks : ℕ → DiskKnown
+  pub imports : ℕ → ℕ
   pub says : Says
   pub holds : Holds
   pub signed : Signed

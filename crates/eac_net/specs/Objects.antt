@@ -5,6 +5,10 @@ use Rattle.signature_provider.specs.declared.provider.SignatureProvider.{Ghosts 
 use Rattle.policy_limits.specs.Setup.{SetupValue}
 use Rattle.keeper.specs.declared.rows.Row.{Row}
 use Rattle.keeper.specs.declared.keeping.Keeper.{Ghosts as KeeperOf}
+use Rattle.chip_slots.specs.declared.disk.ChipDisk.{Ghosts as DiskOf}
+use Rattle.chip_events.specs.DiskTurns.{DiskKnown}
+use Rattle.eac_net.specs.Chips.{known_of}
+use Rattle.eac_net.specs.Counts.{count_at}
 use Rattle.eac_net.specs.Lawful.{AreLawful}
 use Rattle.eac_net.specs.Made.{all_made, AreGood}
 use Rattle.eac_net.specs.Moment.{Moment, AllHeld}
@@ -23,37 +27,55 @@ pub record Outside : Type 0 where
   pub holds : Holds
   pub signed : Signed
   pub provider_faults : ℕ
+  -- what is known of each chip's disk
+  pub disks : ℕ → DiskKnown
 
-abbrev pub outside : {B P : Type 0} → KeeperOf B → ProviderOf P → B → P → Outside
-outside B P keeper provider = record {
+abbrev pub outside : {B P : Type 0} → KeeperOf B → ProviderOf P → (ℕ → DiskKnown) → B → P → Outside
+outside B P disks keeper provider = record {
   rows = B.rows keeper;
   keeper_faults = B.faults keeper;
   says = P.says provider;
   holds = P.holds provider;
   signed = P.signed provider;
   provider_faults = P.faults provider;
+  disks = disks;
 }
 
 -- the same with this keeper
 abbrev pub kept_by : {B : Type 0} → KeeperOf B → B → Outside → Outside
 kept_by B keeper o = record o { rows = B.rows keeper; keeper_faults = B.faults keeper }
 
+-- with this provider
+abbrev pub provided_by : {P : Type 0} → ProviderOf P → P → Outside → Outside
+provided_by P provider o = record o {
+  says = P.says provider;
+  holds = P.holds provider;
+  signed = P.signed provider;
+  provider_faults = P.faults provider;
+}
+
+-- with these disks
+abbrev pub over_disks : {D : Type 0} → DiskOf D → List D → Outside → Outside
+over_disks D disks o = record o { disks = known_of D disks }
+
 -- ---- what is known at a moment whatever is told
 
-abbrev pub moment_of : Option ℕ → List Packet → Outside → Moment
-moment_of day packets o = record {
+abbrev pub moment_of : Option ℕ → List Packet → (imports : ℕ → ℕ) → Outside → Moment
+moment_of day packets imports o = record {
   parties = record { day = day; keeper = o.keeper_faults; provider = o.provider_faults; packets = packets };
+  disks = o.disks;
+  imports = imports;
   says = o.says;
   holds = o.holds;
   signed = o.signed;
 }
 
 abbrev pub moment_at : World → Outside → Moment
-moment_at w o = moment_of w.day w.packets o
+moment_at w o = moment_of w.day w.packets (count_at w.imports) o
 
--- no day and no packet
+-- no day, no packet and no import
 abbrev pub first_moment : Outside → Moment
-first_moment o = moment_of None [] o
+first_moment o = moment_of None [] (λ chip. 0) o
 
 -- ---- where the keeper tells these rows
 

@@ -1,5 +1,5 @@
 -- Events run one after another, from the objects before them to those after them (this project's own).
-use Rattle.std.specs.Prelude.{◌≡◌, ℕ, List, [], ◌∷◌, ◌++◌, map, Option, Some, None, Bool, true, false}
+use Rattle.std.specs.Prelude.{◌≡◌, ℕ, List, [], ◌∷◌, ◌++◌, map, Option, Some, None, Bool, true, false, slice_get}
 use Rattle.std.specs.List.{All}
 use Rattle.eac_base.specs.Causes.{Rose}
 use Rattle.eac_base.specs.Telling.{Told}
@@ -11,11 +11,14 @@ use Rattle.issue_core.specs.Registering.Desk.{Asked, RegisterFault, Deliveries, 
 use Rattle.issue_core.specs.Issuing.Desk.{issuing, IssuingStory}
 use Rattle.issue_core.specs.Issuing.Rows.{entries_at}
 use Rattle.ledger.specs.Ledger.{Delivery, entries}
+use Rattle.eac_base.specs.declared.acks.Ack.{Ack}
+use Rattle.chip_slots.specs.declared.disk.ChipDisk.{Ghosts as DiskOf}
 use Rattle.eac_net.specs.Asking.{asked_on}
-use Rattle.eac_net.specs.Items.{Ran, events_of, answers_of, asked_of}
+use Rattle.eac_net.specs.ChipHistory.{ChipTells}
+use Rattle.eac_net.specs.Items.{Ran, events_of, answers_of, asked_of, acks_of}
 use Rattle.eac_net.specs.Lawful.{AreLawful}
 use Rattle.eac_net.specs.Objects.{Outside, first_moment, moment_of}
-use Rattle.eac_net.specs.SoFar.{IsStart, IsFresh, begin}
+use Rattle.eac_net.specs.SoFar.{IsStart, IsFresh, IsBlankDisk, begin}
 use Rattle.eac_net.specs.State.{State}
 use Rattle.eac_net.specs.Steps.{later_day}
 use Rattle.eac_net.specs.Tracing.{IsTracedYes}
@@ -54,6 +57,10 @@ asks_of today (events.Fetch party desk) = []
 asks_of today (events.Push desk party) = []
 asks_of today (events.Send from to bytes) = []
 asks_of today (events.Deliver packet) = []
+asks_of today (events.Make chip authority) = []
+asks_of today (events.Present chip terminal) = []
+asks_of today (events.Import chip bytes) = []
+asks_of today (events.Look chip) = []
 
 abbrev pub asks : Option ℕ → List Event → List Asked
 asks today [] = []
@@ -83,15 +90,20 @@ pub record RowsTell (setup : SetupValue) (o o' : Outside) (before after : List R
   pub traced : IsFresh o → All (IsTracedYes after end.lost) (asked_of items)
   pub found_again : ¬ Rose o.keeper_faults o'.keeper_faults → end.lost ≡ []
 
--- These events were run in order from no day and no packet on, with these answers. With no premise: what each answer is and
--- its cause, from moment to moment, and that what was asked obeys both rules. Where the rows are told afterwards their
--- history.
-pub record RunOf (setup : SetupValue) (o o' : Outside) (events : List Event) (answers : List (Option Answer)) : Type 0 where
+-- These events were run in order from no day, no packet and no import on, with these answers, and these imports were
+-- acknowledged. With no premise: what each answer is and its cause, from moment to moment, and that what was asked obeys both
+-- rules. Where the rows are told afterwards their history; and of each chip whose disk tells and was blank, that chip's.
+pub record RunOf {D : Type 0} (G : DiskOf D) (setup : SetupValue) (o o' : Outside) (disks disks' : List D) (acks : List Ack)
+    (events : List Event) (answers : List (Option Answer)) : Type 0 where
   pub items : List Ran
   pub events_are : events_of items ≡ events
   pub answers_are : answers_of items ≡ answers
+  pub acks_are : acks ≡ acks_of items
   pub day : Option ℕ
   pub packets : List Packet
-  pub ran : AreRan setup (first_moment o) items (moment_of day packets o')
+  pub imports : ℕ → ℕ
+  pub ran : AreRan setup (first_moment o) items (moment_of day packets imports o')
   pub verdicts : AreTrue o.says o'.says (asked_of items)
   pub told : Told o.rows o'.rows (λ before after. IsStart setup o before → RowsTell setup o o' before after items)
+  pub chips : (chip : ℕ) (d d' : D) → slice_get disks chip ≡ Some d → slice_get disks' chip ≡ Some d' → G.tells d →
+      IsBlankDisk G d → ChipTells G chip d d' items

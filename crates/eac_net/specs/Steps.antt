@@ -1,16 +1,18 @@
 -- One event as the program runs it: from the objects before it to those after it (this project's own).
-use Rattle.std.specs.Prelude.{◌≡◌, ◌++◌, ℕ, List, Option, Some, None, IsSome, Result, Ok, Err}
+use Rattle.std.specs.Prelude.{◌≡◌, ◌++◌, ℕ, List, Option, Some, None, IsSome, IsTrue, Result, Ok, Err}
 use Rattle.eac_base.specs.Telling.{Told}
-use Rattle.policy_limits.specs.Setup.{SetupValue}
+use Rattle.policy_limits.specs.Setup.{SetupValue, is_inspection_system}
 use Rattle.keeper.specs.declared.rows.Row.{Row}
 use Rattle.issue_core.specs.Issuing.Signed.{Pair}
 use Rattle.eac_net.specs.Acting.{AuthorityFits, TrustFits, ApplyFits}
 use Rattle.eac_net.specs.Asking.{AskFits}
+use Rattle.eac_net.specs.Chips.{HasChip}
 use Rattle.eac_net.specs.Delivering.{DeliverFits}
 use Rattle.eac_net.specs.Items.{Ran}
 use Rattle.eac_net.specs.Journal.{answer_text}
 use Rattle.eac_net.specs.Objects.{Outside, moment_at, IsAt, IsTracedAt}
 use Rattle.eac_net.specs.Packets.{AreBetween}
+use Rattle.eac_net.specs.Parties.{is_party_of}
 use Rattle.eac_net.specs.Pushing.{PushFits}
 use Rattle.eac_net.specs.Sending.{FetchFits, SendFits}
 use Rattle.eac_net.specs.State.{State}
@@ -36,6 +38,10 @@ FitsLine setup (events.Fetch party desk) = FetchFits setup party desk
 FitsLine setup (events.Send from to bytes) = SendFits setup from to bytes
 FitsLine setup (events.Push desk party) = PushFits setup desk party
 FitsLine setup (events.Deliver packet) = DeliverFits packet
+FitsLine setup (events.Make chip authority) = AuthorityFits setup authority
+FitsLine setup (events.Present chip terminal) = IsTrue (is_party_of is_inspection_system setup terminal)
+FitsLine setup (events.Import chip bytes) = AskFits bytes
+FitsLine setup (events.Look chip) = Unit {0}
 
 -- a day stands, unless the event is one
 abbrev pub HasDay : Option ℕ → Event → Type 0
@@ -49,8 +55,14 @@ HasDay today (events.Fetch party desk) = IsSome today
 HasDay today (events.Send from to bytes) = IsSome today
 HasDay today (events.Push desk party) = IsSome today
 HasDay today (events.Deliver packet) = IsSome today
+HasDay today (events.Make chip authority) = IsSome today
+HasDay today (events.Present chip terminal) = IsSome today
+HasDay today (events.Import chip bytes) = IsSome today
+HasDay today (events.Look chip) = IsSome today
 
-pub record MayRun (setup : SetupValue) (w : World) (event : Event) : Type 0 where
+-- with so many chips
+pub record MayRun (setup : SetupValue) (chips : ℕ) (w : World) (event : Event) : Type 0 where
+  pub chip : HasChip chips event
   pub day : HasDay w.day event
   pub fits : FitsLine setup event
   pub parties : AreBetween setup w.packets
@@ -67,6 +79,10 @@ later_day today (events.Fetch party desk) = today
 later_day today (events.Send from to bytes) = today
 later_day today (events.Push desk party) = today
 later_day today (events.Deliver packet) = today
+later_day today (events.Make chip authority) = today
+later_day today (events.Present chip terminal) = today
+later_day today (events.Import chip bytes) = today
+later_day today (events.Look chip) = today
 
 -- ---- one event
 
@@ -91,6 +107,7 @@ pub record Steps (setup : SetupValue) (i : Ran) (w w' : World) (o o' : Outside) 
   pub answers : AnswersTo setup i
   pub rows : Told o.rows o'.rows (λ before after. (s : State) → IsAt setup w o before s → GoesOn setup i w' o o' before after s)
   pub parties : AreBetween setup w'.packets
+  pub acks : w'.acks.acks ≡ w.acks.acks ++ i.acks
 
 -- what a step appended to the text: the answer's, or nothing where memory is wanting
 abbrev pub Said : {E : Type 0} → Result (Unit {0}) E → Option Answer → List ℕ → List ℕ → Type 0
@@ -99,7 +116,7 @@ Said (Ok u) None old new = ⊥
 Said (Err e) (Some answer) old new = ⊥
 Said (Err e) None old new = new ≡ old
 
--- the same of the world: the packets of the answer were sent
+-- an event of parties, which calls no chip
 abbrev pub HasStepped : SetupValue → Event → {E : Type 0} → Result (Unit {0}) E → World × List ℕ → World × List ℕ
     → Outside → Outside → Type 0
 HasStepped setup event r before after o o' =

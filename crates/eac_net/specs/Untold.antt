@@ -1,10 +1,11 @@
 -- What is known of an answer also where no rows are told: that it is one to the event, and why it came (this project's
 -- own).
-use Rattle.std.specs.Prelude.{◌≡◌, List, [], Option}
+use Rattle.std.specs.Prelude.{◌≡◌, ◌≤◌, List, [], Option}
 use Rattle.issue_core.specs.Issuing.Causes.{StaysTrue}
 use Rattle.policy_limits.specs.Setup.{SetupValue}
 use Rattle.eac_net.specs.Acting.{FoundAnswers, LinkAnswers, TrustAnswers, ApplyAnswers}
 use Rattle.eac_net.specs.Asking.{AskAnswers}
+use Rattle.eac_net.specs.ChipSays.{ChipSays}
 use Rattle.eac_net.specs.Days.{DayAnswers}
 use Rattle.eac_net.specs.Delivering.{DeliverAnswers}
 use Rattle.eac_net.specs.Goes.{Goes}
@@ -31,7 +32,13 @@ pub record CallsNone (m : Meanings) (asked : List Verdict) (E : Type 0) : Type 0
   pub still : IsStill m
   pub event : E
 
--- the answer is one to this event, with its cause in what stood before and after, and in what the keeper gave
+-- An event of a chip: day and packets stay, and the provider was asked at most.
+pub record Rests (m : Meanings) (s s' : Standing) : Type 0 where
+  pub still : IsStill m
+  pub later : s.provider ≤ s'.provider
+  pub parties : s' ≡ record s { keeper = s'.keeper; provider = s'.provider }
+
+-- the answer is one to this event of parties, with its cause in what stood before and after, and in what the keeper gave
 abbrev pub Says : SetupValue → Meanings → Standing → Event → Option Answer → List Verdict → Standing → Type 0
 Says setup m s (events.Day day) answer asked s' = CallsNone m asked (DayAnswers s day answer s')
 Says setup m s (events.Ask reference bytes) answer asked s' = CallsNone m asked (AskAnswers s reference bytes answer s')
@@ -45,11 +52,16 @@ Says setup m s (events.Fetch party desk) answer asked s' = CallsNone m asked (Fe
 Says setup m s (events.Send from to bytes) answer asked s' = CallsNone m asked (SendAnswers s from to bytes answer s')
 Says setup m s (events.Push desk party) answer asked s' = CallsNone m asked (PushAnswers setup s desk party answer s')
 Says setup m s (events.Deliver packet) answer asked s' = DeliverAnswers setup m s answer asked s' packet
+Says setup m s (events.Make chip authority) answer asked s' = Rests m s s'
+Says setup m s (events.Present chip terminal) answer asked s' = Rests m s s'
+Says setup m s (events.Import chip bytes) answer asked s' = Rests m s s'
+Says setup m s (events.Look chip) answer asked s' = Rests m s s'
 
--- All that is known of one event whatever is told: its answer, that verdicts are what the provider says, and that the
--- provider goes back on nothing.
+-- All that is known of one event whatever is told: its answer by parties and by the event's chip, that verdicts are what the
+-- provider says, and that the provider goes back on nothing.
 pub record AnswersTo (setup : SetupValue) (i : Ran) : Type 0 where
   pub says : Says setup (means i.from i.to) i.from.parties i.event i.answer i.asked i.to.parties
+  pub chips : ChipSays i.event i
   pub asked : AreSaid i.from.says i.asked
   pub provider : StaysTrue i.from.says i.to.says i.from.holds i.to.holds i.from.signed i.to.signed
 

@@ -1,5 +1,7 @@
 // What is answered to events.
 use crate::packet::Packet;
+use chip_events::{ImportAnswer, Looked, MakeAnswer, Shown};
+use chip_slots::ChipRefusal;
 use cvca_desk::{Founded, Linked};
 use desk_core::Event1;
 use eac_messages::Code;
@@ -12,6 +14,8 @@ use issue_core::RegisterAnswer;
 pub enum Fault {
     Keeper,
     Provider,
+    /// The disk of the event's chip.
+    Disk,
     /// The key of the row with this reference, which is the one to sign with.
     Key(Reference),
 }
@@ -51,6 +55,17 @@ pub enum Replied {
     Took(Received),
 }
 
+/// What came of a chain that was to be shown to a chip.
+#[derive(Debug, Drop)]
+pub enum Presented {
+    /// There is no chip, or its disk failed.
+    NotOpened(ChipRefusal),
+    /// The terminal has no chain for the chip's points.
+    NoChain,
+    /// The chain was shown.
+    Shown(Shown),
+}
+
 /// What is answered to an event.
 #[derive(Debug, Drop)]
 pub enum Answer {
@@ -84,6 +99,14 @@ pub enum Answer {
     Replied(Replied),
     /// No packet of that number was sent.
     Unsent,
+    /// To a `make`.
+    Made(MakeAnswer),
+    /// To a `present`.
+    Presented(Presented),
+    /// To an `import`.
+    Imported(ImportAnswer),
+    /// To a `look`.
+    Looked(Looked),
 }
 
 /// What came of an event: its answer, and the packet that it sends.

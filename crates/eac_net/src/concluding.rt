@@ -44,6 +44,8 @@ pub fn next_number(packets: &PacketList) -> Result<u64, NoMemory>
 // Sends the packet and appends the text, or does neither.
 fn send(world: &mut World, packet: Packet, text: &[u8], line: &mut Octets) -> Result<(), NoMemory>
     ensures day { world.new.day ≡ world.old.day }
+    ensures imports { world.new.imports ≡ world.old.imports }
+    ensures acks { world.new.acks ≡ world.old.acks }
     ensures sent { OnOk result ((world.new.packets ≡ world.old.packets ++ packet ∷ [])
         × (line.new ≡ line.old ++ text.now)) }
     ensures kept { OnErr result ((world.new.packets ≡ world.old.packets) × (line.new ≡ line.old)) }

@@ -10,6 +10,7 @@ ghost use Rattle.eac_net.specs.Answers.{Tells};
 ghost use Rattle.eac_net.specs.Arrival.{arrival, call_read, reply_read};
 ghost use Rattle.eac_net.specs.Delivered.{took_answer};
 ghost use Rattle.eac_net.specs.Delivering.{DeliverFits};
+ghost use Rattle.chip_events.specs.DiskTurns.{DiskKnown};
 ghost use Rattle.eac_net.specs.Objects.{outside};
 ghost use Rattle.eac_net.specs.Packets as numbers;
 ghost use Rattle.eac_net.specs.Packets.{AreBetween};
@@ -201,9 +202,9 @@ pub fn deliver<B: Keeper, P: SignatureProvider>(
     requires day { IsSome world.old.day }
     requires number { DeliverFits number }
     requires parties { AreBetween setup.now world.old.packets }
-    ensures steps { HasStepped setup.now (Event.Deliver number) result (world.old, line.old) (world.new, line.new)
-        (outside B.Keeper P.SignatureProvider keeper.old provider.old)
-        (outside B.Keeper P.SignatureProvider keeper.new provider.new) }
+    ensures steps { (disks : ℕ → DiskKnown) → HasStepped setup.now (Event.Deliver number) result (world.old, line.old) (world.new, line.new)
+        (outside B.Keeper P.SignatureProvider disks keeper.old provider.old)
+        (outside B.Keeper P.SignatureProvider disks keeper.new provider.new) }
     ensures day { world.new.day ≡ world.old.day }
 {
     let day = world.day.unwrap();

@@ -1,4 +1,4 @@
-// The events of a run. Parties are given by their numbers in the setup.
+// The events of a run. Parties are given by their numbers in the setup, chips by theirs among the disks.
 use cv_dates::Day;
 use eac_base::Octets;
 use holder_reference::Reference;
@@ -53,5 +53,24 @@ pub enum Event {
     /// The packet of this number, from 1, comes to its party.
     Deliver {
         packet: u64,
+    },
+    /// A chip is made with an authority's newest certificate, on the day in force.
+    Make {
+        chip: u32,
+        authority: u32,
+    },
+    /// A terminal's chain is shown to a chip.
+    Present {
+        chip: u32,
+        terminal: u32,
+    },
+    /// A chip is given these bytes as a certificate, 1 to 4,096 of them.
+    Import {
+        chip: u32,
+        bytes: Octets,
+    },
+    /// A chip is told.
+    Look {
+        chip: u32,
     },
 }

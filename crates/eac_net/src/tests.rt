@@ -3,12 +3,16 @@
 // The events are run at one place, `answers`, which first asks whether they may be. Owned values are let go by a call of
 // `drop`: at the end of a scope each list of bytes in them would be proved apart.
 ghost use Rattle.std.specs.Prelude.{◌≡◌, ◌≢◌, IsTrue};
-ghost use Rattle.policy_limits.specs.Setup.{is_authority, is_verifier};
+ghost use Rattle.policy_limits.specs.Setup.{is_authority, is_verifier, is_inspection_system};
+ghost use Rattle.eac_net.specs.Chips.{HasChip};
 ghost use Rattle.eac_net.specs.Packets.{AreBetween};
 ghost use Rattle.eac_net.specs.Parties.{is_party_of, kind_at};
 ghost use Rattle.eac_net.specs.Steps.{FitsLine, HasDay};
 
+mod inspected;
+
 use crate::{Event, World, step};
+use chip_slots::MemoryDisk;
 use cv_dates::{Day, day_from_text};
 use eac_base::{FailPlan, Octets};
 use holder_reference::read_reference;
@@ -20,6 +24,7 @@ use std::process::Abort;
 
 const SETUP: &[u8] = b"cvca DECVCA ec 03 1096\n\
       dv DEDVBUND\n\
+      terminal DETERM1\n\
       register DECVCA DEDVBUND domestic 03 90 3 bare\n";
 
 // ---- whether an event may be run
@@ -51,6 +56,15 @@ fn is_dv(setup: &Setup, number: u32) -> bool
     }
 }
 
+fn is_terminal(setup: &Setup, number: u32) -> bool
+    ensures { result ≡ is_party_of is_inspection_system setup.now number }
+{
+    match kind(setup, number) {
+        Some(PartyKind::Terminal) => true,
+        _ => false,
+    }
+}
+
 // An authority and a verifier.
 fn are_two(setup: &Setup, authority: u32, verifier: u32) -> bool
     ensures authority { IsTrue result → IsTrue (is_party_of is_authority setup.now authority) }
@@ -58,6 +72,18 @@ fn are_two(setup: &Setup, authority: u32, verifier: u32) -> bool
     ensures differ { IsTrue result → verifier ≢ authority }
 {
     authority != verifier && is_cvca(setup, authority) && is_dv(setup, verifier)
+}
+
+fn has_chip(chips: usize, event: &Event) -> bool
+    ensures { IsTrue result → HasChip chips event.now }
+{
+    match event {
+        Event::Make { chip, .. } => (*chip as usize) < chips,
+        Event::Present { chip, .. } => (*chip as usize) < chips,
+        Event::Import { chip, .. } => (*chip as usize) < chips,
+        Event::Look { chip } => (*chip as usize) < chips,
+        _ => true,
+    }
 }
 
 fn has_day(today: Option<Day>, event: &Event) -> bool
@@ -74,6 +100,10 @@ fn has_day(today: Option<Day>, event: &Event) -> bool
         Event::Send { .. } => today.is_some(),
         Event::Push { .. } => today.is_some(),
         Event::Deliver { .. } => today.is_some(),
+        Event::Make { .. } => today.is_some(),
+        Event::Present { .. } => today.is_some(),
+        Event::Import { .. } => today.is_some(),
+        Event::Look { .. } => today.is_some(),
     }
 }
 
@@ -96,6 +126,10 @@ fn fits(setup: &Setup, event: &Event) -> bool
         Event::Send { from, to, bytes } => bytes.len() <= 4096 && are_two(setup, *from, *to),
         Event::Push { desk, party } => are_two(setup, *desk, *party),
         Event::Deliver { packet } => 0 < *packet,
+        Event::Make { authority, .. } => is_cvca(setup, *authority),
+        Event::Present { terminal, .. } => is_terminal(setup, *terminal),
+        Event::Import { bytes, .. } => bytes.len() <= 4096,
+        Event::Look { .. } => true,
     }
 }
 
@@ -105,8 +139,18 @@ fn fits(setup: &Setup, event: &Event) -> bool
 struct Run {
     setup: Setup,
     world: World,
+    chips: [MemoryDisk; 2],
     keeper: MemoryKeeper,
     provider: TableProvider,
+}
+
+// A chip's memory with two slots, in which nothing was written.
+fn blank_disk(rt: &impl Abort, alloc: Global) -> MemoryDisk {
+    let mut zeros = Octets::new(alloc);
+    for _ in 0..2_048 {
+        zeros.push_all(&[0; 8]).expect(rt, "memory is there");
+    }
+    MemoryDisk::new(alloc, zeros, FailPlan::new(alloc), None)
 }
 
 fn new_run(rt: &impl Abort, alloc: Global) -> Run
@@ -115,6 +159,7 @@ fn new_run(rt: &impl Abort, alloc: Global) -> Run
     Run {
         setup: read_setup(alloc, SETUP).expect(rt, "the setup is legal"),
         world: World::new(alloc),
+        chips: [blank_disk(rt, alloc), blank_disk(rt, alloc)],
         keeper: MemoryKeeper::new(alloc, KeeperPlan::new(alloc)),
         provider: TableProvider::new(alloc, FailPlan::new(alloc)),
     }
@@ -125,6 +170,7 @@ fn answers(rt: &impl Abort, alloc: Global, run: &mut Run, event: Event, text: &[
     requires { AreBetween run.old.setup run.old.world.packets }
     ensures { AreBetween run.new.setup run.new.world.packets }
 {
+    assert!(rt; has_chip(run.chips.len(), &event));
     assert!(rt; has_day(run.world.day, &event));
     assert!(rt; fits(&run.setup, &event));
     let mut line = Octets::new(alloc);
@@ -133,6 +179,7 @@ fn answers(rt: &impl Abort, alloc: Global, run: &mut Run, event: Event, text: &[
         &run.setup,
         &mut run.world,
         &event,
+        &mut run.chips,
         &mut run.keeper,
         &mut run.provider,
         &mut line,
@@ -222,5 +269,48 @@ fn each_event_is_answered(rt: HostRuntime) {
         Event::Link { authority: 0 },
         b"linked DECVCA00002",
     );
+    drop(run);
+}
+
+#[test]
+fn chips_are_made_and_inspected(rt: HostRuntime) {
+    let alloc = rt.alloc();
+    let mut run = new_run(&rt, alloc);
+    let found = Event::Found { authority: 0 };
+    let early = Event::Make {
+        chip: 0,
+        authority: 0,
+    };
+    let make = Event::Make {
+        chip: 0,
+        authority: 0,
+    };
+    let again = Event::Make {
+        chip: 0,
+        authority: 0,
+    };
+    let present = Event::Present {
+        chip: 0,
+        terminal: 2,
+    };
+    let import = Event::Import {
+        chip: 1,
+        bytes: Octets::from_slice(alloc, &[1, 2]).expect(&rt, "memory is there"),
+    };
+    answers(&rt, alloc, &mut run, day(&rt, b"240101"), b"");
+    answers(&rt, alloc, &mut run, early, b"refused unfounded");
+    answers(&rt, alloc, &mut run, found, b"founded DECVCA00001");
+    answers(&rt, alloc, &mut run, make, b"made DECVCA00001");
+    answers(&rt, alloc, &mut run, again, b"refused made");
+    answers(
+        &rt,
+        alloc,
+        &mut run,
+        Event::Look { chip: 0 },
+        b"day 240101 points DECVCA00001 generation 0",
+    );
+    answers(&rt, alloc, &mut run, Event::Look { chip: 1 }, b"nochip");
+    answers(&rt, alloc, &mut run, present, b"nochain");
+    answers(&rt, alloc, &mut run, import, b"nochip");
     drop(run);
 }

@@ -4,12 +4,14 @@ ghost use Rattle.std.specs.Fmt.{decimal};
 ghost use Rattle.eac_net.specs.Journal as words;
 
 mod delivered;
+mod inspected;
 
 use crate::answer::{Answer, Applied, Fault, Trusted};
 use cvca_desk::{Founded, Linked};
 use delivered::{called_text, replied_text};
 use eac_base::{NoMemory, Octets};
 use holder_reference::Reference;
+use inspected::{imported_text, looked_text, made_text, presented_text};
 use issue_core::RegisterAnswer;
 use std::alloc::Global;
 
@@ -35,6 +37,7 @@ fn fault_text(alloc: Global, fault: &Fault) -> Result<Octets, NoMemory>
     match fault {
         Fault::Keeper => Octets::from_slice(alloc, b"fault keeper"),
         Fault::Provider => Octets::from_slice(alloc, b"fault provider"),
+        Fault::Disk => Octets::from_slice(alloc, b"fault disk"),
         Fault::Key(reference) => named(alloc, b"fault key ", reference.as_slice()),
     }
 }
@@ -143,5 +146,9 @@ pub fn answer_text(alloc: Global, answer: &Answer) -> Result<Octets, NoMemory>
         Answer::Called { event, reply } => called_text(alloc, event, *reply),
         Answer::Replied(replied) => replied_text(alloc, replied),
         Answer::Unsent => Octets::from_slice(alloc, b"unsent"),
+        Answer::Made(made) => made_text(alloc, made),
+        Answer::Presented(presented) => presented_text(alloc, presented),
+        Answer::Imported(imported) => imported_text(alloc, imported),
+        Answer::Looked(looked) => looked_text(alloc, looked),
     }
 }

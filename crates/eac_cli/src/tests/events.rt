@@ -58,8 +58,8 @@ const CERTIFICATE: &[u8] = &[
     0x00, 0x00, 0x00, 0x00, 0x00, 0x00, 0x03,
 ];
 
-// The worked script. Its lines with chips are comments, so that each other line has its number.
-const WORKED: &[u8] = b"cvca DECVCA ec 03 1096\n\
+// The worked script, over two chips.
+pub const WORKED: &[u8] = b"cvca DECVCA ec 03 1096\n\
       cvca FRCVCA ec 03 1096\n\
       dv DEDVBUND\n\
       terminal DETERM1\n\
@@ -74,8 +74,8 @@ const WORKED: &[u8] = b"cvca DECVCA ec 03 1096\n\
       trust DEDVBUND FRCVCA\n\
       trust DETERM1 DECVCA\n\
       trust DETERM1 FRCVCA\n\
-      # make 0 DECVCA\n\
-      # make 1 FRCVCA\n\
+      make 0 DECVCA\n\
+      make 1 FRCVCA\n\
       apply DEDVBUND DECVCA DECVCA\n\
       deliver 1\n\
       deliver 1\n\
@@ -92,14 +92,14 @@ const WORKED: &[u8] = b"cvca DECVCA ec 03 1096\n\
       apply DETERM1 DEDVBUND FRCVCA\n\
       deliver 10\n\
       deliver 11\n\
-      # present 0 DETERM1\n\
-      # present 1 DETERM1\n\
+      present 0 DETERM1\n\
+      present 1 DETERM1\n\
       day 240108\n\
       link DECVCA\n\
       apply DETERM1 DEDVBUND DECVCA\n\
       deliver 12\n\
       deliver 13\n\
-      # present 0 DETERM1\n\
+      present 0 DETERM1\n\
       push DECVCA DETERM1\n\
       deliver 14\n\
       fetch DEDVBUND DECVCA\n\
@@ -113,19 +113,21 @@ const WORKED: &[u8] = b"cvca DECVCA ec 03 1096\n\
       apply DETERM1 DEDVBUND DECVCA\n\
       deliver 22\n\
       deliver 23\n\
-      # present 0 DETERM1\n\
-      # look 0\n\
+      present 0 DETERM1\n\
+      look 0\n\
       deliver 18\n\
-      # present 0 DETERM1\n\
+      present 0 DETERM1\n\
       deliver 25\n";
 
-const WORKED_JOURNAL: &[u8] = b"9: founded DECVCA00001\n\
+pub const WORKED_JOURNAL: &[u8] = b"9: founded DECVCA00001\n\
       10: founded FRCVCA00001\n\
       11: trusted DECVCA00001\n\
       12: trusted DECVCA00001\n\
       13: trusted FRCVCA00001\n\
       14: trusted DECVCA00001\n\
       15: trusted FRCVCA00001\n\
+      16: made DECVCA00001\n\
+      17: made FRCVCA00001\n\
       18: packet 1 DEDVBUND00001\n\
       19: issued DEDVBUND00001 reply 2\n\
       20: kept DEDVBUND00001 reply 3\n\
@@ -142,10 +144,13 @@ const WORKED_JOURNAL: &[u8] = b"9: founded DECVCA00001\n\
       31: packet 10 DETERM100002\n\
       32: issued DETERM100002 reply 11\n\
       33: stored DETERM100002\n\
+      34: verifier DEDVBUND00001, terminal DETERM100001, grant 03 day 240101\n\
+      35: verifier DEDVBUND00002, terminal DETERM100002, grant 01 day 240101\n\
       37: linked DECVCA00002\n\
       38: packet 12 DETERM100003\n\
       39: issued DETERM100003 reply 13\n\
       40: stored DETERM100003\n\
+      41: verifier DEDVBUND00001, terminal DETERM100003, grant 03 day 240108\n\
       42: packet 14\n\
       43: ca held DECVCA00001, ca DECVCA00002 reply 15\n\
       44: packet 16\n\
@@ -160,7 +165,10 @@ const WORKED_JOURNAL: &[u8] = b"9: founded DECVCA00001\n\
       52: packet 22 DETERM100004\n\
       53: issued DETERM100004 reply 23\n\
       54: stored DETERM100004\n\
+      55: link DECVCA00002, verifier DEDVBUND00003, terminal DETERM100004, grant 03 day 240108\n\
+      56: day 240108 points DECVCA00001 DECVCA00002 generation 2\n\
       57: kept DEDVBUND00003 reply 24\n\
+      58: verifier DEDVBUND00003, terminal DETERM100004, grant 03 day 240108\n\
       59: unsent\n";
 
 #[test]
@@ -169,7 +177,7 @@ fn the_worked_scripts_have_their_journals(rt: HostRuntime) {
     let ended = run(&rt, alloc, &CALM, SHORT, SHORT_JOURNAL);
     assert!(rt; ended == (Status::Done, 6));
     let ended = run(&rt, alloc, &CALM, WORKED, WORKED_JOURNAL);
-    assert!(rt; ended == (Status::Done, 44));
+    assert!(rt; ended == (Status::Done, 52));
 }
 
 // ---- rows
@@ -324,7 +332,7 @@ fn events_are_refused_in_these_words(rt: HostRuntime) {
 // ---- rules of event lines
 
 // What stands behind five lines of a setup and a day, as line 7, and the least rule that it breaks.
-const BEHIND_DAY: [(&[u8], u8); 44] = [
+const BEHIND_DAY: [(&[u8], u8); 53] = [
     // 1: no event line in the grammar
     (b"found", 1),
     (b"found DECVCA DECVCA", 1),
@@ -344,10 +352,12 @@ const BEHIND_DAY: [(&[u8], u8); 44] = [
     (b"deliver -1", 1),
     (b"deliver 1 2", 1),
     (b"deliver x", 1),
-    (b"make 0 DECVCA", 1),
-    (b"present 0 DEIS00001", 1),
-    (b"import 0 00", 1),
-    (b"look 0", 1),
+    (b"make 0", 1),
+    (b"make 00 DECVCA", 1),
+    (b"present 0", 1),
+    (b"import 0 0", 1),
+    (b"look", 1),
+    (b"look 0 0", 1),
     // 2: N beyond its limits
     (b"deliver 0", 2),
     (b"deliver 1000001", 2),
@@ -372,6 +382,14 @@ const BEHIND_DAY: [(&[u8], u8); 44] = [
     (b"push DEDVBUND DECVCA", 6),
     (b"send FRCVCA DECVCA 00", 6),
     (b"send DECVCA FRCVCA 00", 6),
+    (b"make 0 DEDVBUND", 6),
+    (b"present 0 DEDVBUND", 6),
+    // 6: a chip that isn't there
+    (b"make 2 DECVCA", 6),
+    (b"present 2 DEIS00001", 6),
+    (b"import 2 00", 6),
+    (b"look 2", 6),
+    (b"look 4294967296", 6),
 ];
 
 #[test]
@@ -440,7 +458,7 @@ fn bytes_that_are_sent_have_a_limit(rt: HostRuntime) {
 // ---- failing calls
 
 // Whether the text has these bytes in it.
-fn has(text: &[u8], part: &[u8]) -> bool {
+pub fn has(text: &[u8], part: &[u8]) -> bool {
     for at in 0..text.len() {
         if part.len() <= text.len() - at && is_same(&text[at..at + part.len()], part) {
             return true;
@@ -536,7 +554,7 @@ fn a_provider_that_tells_nothing_gives_the_same_journal(rt: HostRuntime) {
     );
     drop(keeper);
     drop(provider);
-    assert!(rt; ended == (Status::Done, 44));
+    assert!(rt; ended == (Status::Done, 52));
 }
 
 // The rows and their keys are those of an earlier run. Both providers number their keys from 1, so the authority's key

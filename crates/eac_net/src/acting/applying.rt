@@ -1,5 +1,5 @@
 // A holder makes a request and sends it.
-ghost use Rattle.std.specs.Prelude.{◌≡◌, [], ◌∷◌, Option, Some, Ok, IfOk, IfSome, IsSome, IsTrue, is_some};
+ghost use Rattle.std.specs.Prelude.{◌≡◌, [], ◌∷◌, Option, Some, Ok, IfOk, IfSome, IsSome, IsTrue, is_some, ℕ};
 ghost use Rattle.eac_base.specs.Telling.{Told};
 ghost use Rattle.eac_messages.specs.declared.message.Message.TheVariants as messages;
 ghost use Rattle.holder_core.specs.Faults.{HolderCause, KeeperCaused};
@@ -11,6 +11,7 @@ ghost use Rattle.policy_limits.specs.Setup.{IsSetup};
 ghost use Rattle.eac_net.specs.Acting as words;
 ghost use Rattle.eac_net.specs.Acting.{ApplyFits, home_of, HomeAsked, HomeFound, MissesApplying, applied_as, request_sent};
 ghost use Rattle.eac_net.specs.Answers.{Tells, answer_by};
+ghost use Rattle.chip_events.specs.DiskTurns.{DiskKnown};
 ghost use Rattle.eac_net.specs.Objects.{outside};
 ghost use Rattle.eac_net.specs.Packets.{AreBetween};
 ghost use Rattle.eac_net.specs.Packets as numbers;
@@ -251,9 +252,9 @@ pub fn apply<B: Keeper, P: SignatureProvider>(
 ) -> Result<(), NoMemory>
     requires fits { ApplyFits setup.now asking.holder asking.authority asking.root }
     requires parties { AreBetween setup.now world.old.packets }
-    ensures steps { HasStepped setup.now (Event.Apply asking.holder asking.authority asking.root) result (world.old, line.old)
-        (world.new, line.new) (outside B.Keeper P.SignatureProvider keeper.old provider.old)
-        (outside B.Keeper P.SignatureProvider keeper.new provider.new) }
+    ensures steps { (disks : ℕ → DiskKnown) → HasStepped setup.now (Event.Apply asking.holder asking.authority asking.root) result (world.old, line.old)
+        (world.new, line.new) (outside B.Keeper P.SignatureProvider disks keeper.old provider.old)
+        (outside B.Keeper P.SignatureProvider disks keeper.new provider.new) }
     ensures day { world.new.day ≡ world.old.day }
 {
     let Asking {

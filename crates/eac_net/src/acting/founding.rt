@@ -1,7 +1,8 @@
 // An authority makes its first certificate.
-ghost use Rattle.std.specs.Prelude.{◌≡◌, [], IsSome};
+ghost use Rattle.std.specs.Prelude.{◌≡◌, [], IsSome, ℕ};
 ghost use Rattle.eac_net.specs.Acting.{AuthorityFits};
 ghost use Rattle.eac_net.specs.Answers.{Tells, answer_by};
+ghost use Rattle.chip_events.specs.DiskTurns.{DiskKnown};
 ghost use Rattle.eac_net.specs.Objects.{outside};
 ghost use Rattle.eac_net.specs.Packets.{AreBetween};
 ghost use Rattle.eac_net.specs.Steps.{HasStepped};
@@ -41,9 +42,9 @@ pub fn found<B: Keeper, P: SignatureProvider>(
     requires day { IsSome world.old.day }
     requires authority { AuthorityFits setup.now authority }
     requires parties { AreBetween setup.now world.old.packets }
-    ensures steps { HasStepped setup.now (Event.Found authority) result (world.old, line.old) (world.new, line.new)
-        (outside B.Keeper P.SignatureProvider keeper.old provider.old)
-        (outside B.Keeper P.SignatureProvider keeper.new provider.new) }
+    ensures steps { (disks : ℕ → DiskKnown) → HasStepped setup.now (Event.Found authority) result (world.old, line.old) (world.new, line.new)
+        (outside B.Keeper P.SignatureProvider disks keeper.old provider.old)
+        (outside B.Keeper P.SignatureProvider disks keeper.new provider.new) }
     ensures day { world.new.day ≡ world.old.day }
 {
     let day = world.day.unwrap();

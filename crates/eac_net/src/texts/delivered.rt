@@ -49,8 +49,8 @@ fn item_text(alloc: Global, item: &Item) -> Result<Octets, NoMemory>
     }
 }
 
-// Appends the text at this place of a list: behind a comma, where it isn't the first.
-fn push_at(text: &mut Octets, at: usize, more: &[u8]) -> Result<(), NoMemory>
+/// Appends the text at this place of a list: behind a comma, where it isn't the first.
+pub(crate) fn push_at(text: &mut Octets, at: usize, more: &[u8]) -> Result<(), NoMemory>
     ensures { OnOk result (text.new ≡ text.old ++ words.behind at more.now) }
 {
     if 0 < at {

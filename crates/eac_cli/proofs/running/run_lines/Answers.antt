@@ -1,24 +1,28 @@
-use Rattle.std.proofs.Common.{◌∙◌, ◌+◌, ◌++◌, ◌∷◌, [], take, drop, arith, subst, refl, sym, ap}
+use Rattle.std.proofs.Common.{◌∙◌, ◌+◌, ◌++◌, ◌∷◌, [], length, take, drop, arith, subst, refl, sym, ap}
 use Rattle.std.proofs.lemmas.List.{take_more, take_all}
 use Rattle.eac_cli.specs.Steps.{MayRunAll}
-use Rattle.eac_cli.proofs.Runs.{begun, one_more, may_run_next, may_run_here, whole_run, stopped_run}
+use Rattle.eac_cli.proofs.Runs.{begun, one_more, promised, may_run_next, may_run_here, whole_run, stopped_run}
 use Rattle.eac_cli.proofs.running.run_lines.Goals as goal
 
 pub run_line-requires : goal.run_line-requires
 run_line-requires g c =
     let v = c.loop-line.invariant in
-    may_run_here _ _ _ _ _ c.args.lines.now c.loop-line.line-index c.line-item.result (omega arith) c.line-item.is v.rest v.going
+    may_run_here g.D.ChipDisk _ _ _ _ _ _ _ c.args.lines.now c.loop-line.line-index c.line-item.result v.chips (omega arith) c.line-item.is v.rest v.going
+
+pub returns-in-Err-clause-chips : goal.returns-in-Err-clause-chips
+returns-in-Err-clause-chips g c = c.in-Err.ensures.chips ∙ c.loop-line.invariant.chips
 
 pub returns-in-Err-clause-stopped : goal.returns-in-Err-clause-stopped
 returns-in-Err-clause-stopped g c =
     let v = c.loop-line.invariant in
-    stopped_run _ _ _ _ _ _ c.args.lines.now c.loop-line.line-index c.loop-line.done c.line-item.result c.in-Err.stop v.count (omega arith) c.line-item.is v.going c.in-Err.ensures.ran
+    stopped_run g.D.ChipDisk (promised g.D.ChipDisk c.run_of.ensures c.runs_keep_their_word.ensures) _ _ _ _ _ _ c.into_acks.result c.args.lines.now c.loop-line.line-index c.loop-line.done c.line-item.result c.in-Err.stop c.into_acks.ensures v.count (omega arith) c.line-item.is v.going c.in-Err.ensures.ran
 
 pub loop-line-init : goal.loop-line-init
 loop-line-init g c = record {
   count = refl;
-  rest = subst (λ day. MayRunAll c.args.setup.now day c.args.lines.now) (sym c.new-world.ensures.day) c.requires;
-  going = begun _ _ _ c.new-world.ensures.day c.new-world.ensures.packets;
+  chips = refl;
+  rest = subst (λ day. MayRunAll c.args.setup.now (length c.args.chips.now) day c.args.lines.now) (sym c.new-world.ensures.day) c.requires;
+  going = begun g.D.ChipDisk _ _ _ (record { day = c.new-world.ensures.day; packets = c.new-world.ensures.packets; imports = c.new-world.ensures.imports; acks = c.new-world.ensures.acks }) (λ chip. refl);
 }
 
 pub loop-line-preserved : goal.loop-line-preserved
@@ -29,11 +33,12 @@ loop-line-preserved g c =
     let line = c.line-item.result in
     record {
       count = omega arith;
-      rest = subst (λ day. MayRunAll c.args.setup.now day (drop (i + 1) lines)) (sym c.in-Ok.ensures.day) (may_run_next _ _ lines i line (omega arith) c.line-item.is v.rest).2;
-      going = one_more _ _ _ _ _ _ (take i lines) (take (i + 1) lines) line _ (take_more lines i line (omega arith) ∙ ap (λ x. take i lines ++ x ∷ []) (sym c.line-item.is)) v.going c.in-Ok.ensures.ran;
+      chips = c.in-Ok.ensures.chips ∙ v.chips;
+      rest = subst (λ day. MayRunAll c.args.setup.now (length c.args.chips.now) day (drop (i + 1) lines)) (sym c.in-Ok.ensures.day) (may_run_next _ _ _ lines i line (omega arith) c.line-item.is v.rest).rest;
+      going = one_more g.D.ChipDisk _ _ _ _ _ _ (take i lines) (take (i + 1) lines) line _ (take_more lines i line (omega arith) ∙ ap (λ x. take i lines ++ x ∷ []) (sym c.line-item.is)) v.going c.in-Ok.ensures.ran;
     }
 
 pub returns-clause-whole : goal.returns-clause-whole
 returns-clause-whole g c = λ none.
     let v = c.loop-line.invariant in
-    whole_run _ _ _ _ (take c.loop-line.line-index c.args.lines.now) c.args.lines.now c.loop-line.done (take_all c.loop-line.line-index c.args.lines.now (omega arith)) (omega arith) v.going
+    whole_run g.D.ChipDisk (promised g.D.ChipDisk c.run_of.ensures c.runs_keep_their_word.ensures) _ _ _ _ c.into_acks-2.result (take c.loop-line.line-index c.args.lines.now) c.args.lines.now c.loop-line.done c.into_acks-2.ensures (take_all c.loop-line.line-index c.args.lines.now (omega arith)) (omega arith) v.going

@@ -1,0 +1,4 @@
+pub mod Desks
+pub mod OneChip
+pub mod Headline
+pub mod Sentences
